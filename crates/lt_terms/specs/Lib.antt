@@ -1,0 +1,5 @@
+pub mod Bytes
+pub mod Causes
+pub mod Hashes
+pub mod Items
+pub mod Maps
