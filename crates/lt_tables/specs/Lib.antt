@@ -1,0 +1,5 @@
+pub mod Bucket
+pub mod Filter
+pub mod Placement
+pub mod Cut
+pub mod Merge
