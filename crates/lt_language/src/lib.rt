@@ -1,13 +1,21 @@
-// A library with one function.
+//! The line language and the machine that answers it: what the top call promises is said in these words.
 #![tactic(auto)]
 
-ghost use Rattle.std.specs.Prelude.{◌≡◌};
-ghost use Rattle.lt_language.specs.Echo.{echo_of};
+mod laws;
 
-// The `ensures` clause is the contract: what `echo` returns is `echo_of` of its argument, a definition
-// in `specs/Echo.antt`, which a caller's clause can cite too.
-pub fn echo(x: usize) -> usize
-    ensures { result ≡ echo_of x }
-{
-    x
+pub use laws::one_split;
+
+/// Why a line is refused.
+#[derive(Clone, Copy, Debug, PartialEq, Eq)]
+pub enum Bad {
+    /// It has more than 3,260 bytes.
+    Long,
+    /// It is none of the commands.
+    Syntax,
+    /// Its key has no byte, more than 255 bytes, or a space.
+    Key,
+    /// Its value has more than 3,000 bytes.
+    Value,
+    /// It has no line feed at the end of the input.
+    End,
 }
