@@ -122,3 +122,31 @@ fn all_zero(bytes: &[u8]) -> bool
 {
     bytes.iter().all(|byte| *byte == 0)
 }
+
+#[cfg(test)]
+mod tests {
+    use super::*;
+
+    #[test]
+    fn pages_start_as_zeros_and_hold_what_is_put_into_them(
+        rt: HostRuntime,
+    ) -> Result<(), NoMemory> {
+        let mut page = Page::new(rt.alloc())?;
+        assert!(rt; page.is_zero());
+        assert_eq!(rt; page.bytes().len(), Page::LEN);
+
+        page.fill_from(4092, &[0x12, 0x34, 0x56, 0x78]);
+        page.set(0, 7);
+        assert!(rt; !page.is_zero());
+        assert_eq!(rt; page.byte(0), 7);
+        assert_eq!(rt; page.number_u16(4093), 0x3456);
+        assert_eq!(rt; page.number_u32(4092), 0x1234_5678);
+
+        let mut other = Page::new(rt.alloc())?;
+        other.copy_from(&page);
+        page.clear();
+        assert!(rt; page.is_zero());
+        assert_eq!(rt; other.byte(4095), 0x78);
+        Ok(())
+    }
+}
