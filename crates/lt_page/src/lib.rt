@@ -1,0 +1,8 @@
+//! A page of 4,096 bytes, and the two answers of calls that fail with no more to tell.
+#![tactic(auto)]
+
+mod errors;
+mod page;
+
+pub use errors::{Failed, NoMemory};
+pub use page::Page;
