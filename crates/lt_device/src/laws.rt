@@ -24,8 +24,7 @@ pub fn stays_fit()
     ensures write { (n b : ℕ) (old new : State) → Wrote n b old new → IsFit n new }
     ensures sync { (n : ℕ) (old new : State) → EndedSync n old new → IsFit n new }
     ensures left { (n : ℕ) (s : State) (left : Image) → IsFit n s → MayLeave s left → IsWhole n left }
-{
-}
+{}
 
 /// The images that a crash may leave now.
 pub fn images_now()
@@ -42,8 +41,7 @@ pub fn images_now()
         → MayLeave (synced s) left → s.shown ≡ Some left }
     ensures sync_reads { (n : ℕ) (s : State) (image : Image) (flags : List Bool) → IsFit n s
         → s.shown ≡ Some image → s.unsynced ≡ Some flags → MayLeave (synced s) image }
-{
-}
+{}
 
 /// The images that a crash at some moment since a time might have left.
 pub fn images_since()
@@ -64,8 +62,7 @@ pub fn images_since()
     // where they are told, there is one
     ensures some { (n : ℕ) (s : State) (flags : List Bool) → IsFit n s → s.unsynced ≡ Some flags
         → (left : Image) × MayLeave s left }
-{
-}
+{}
 
 /// A fact of each image since a start goes on from call to call.
 pub fn composition<P: Fact, Q: Fact>()
@@ -90,8 +87,7 @@ pub fn composition<P: Fact, Q: Fact>()
     ensures some_since { (n : ℕ) (s : State) (t : ℕ) (epochs : List Epoch) → IsFit n s → s.past ≡ Some epochs
         → ((left : Image) → MayLeave s left → P.holds left)
         → (left : Image) × LeftSince s t left × P.holds left }
-{
-}
+{}
 
 /// Each image since a start agrees, outside some blocks, with one that a crash could have left then.
 pub fn confinement<S: Region, T: Region, P: Fact>()
@@ -110,8 +106,7 @@ pub fn confinement<S: Region, T: Region, P: Fact>()
     ensures keeps { (old mid new : State) → ConfinedTo S.inside mid new → Leaves P.holds old mid
         → ((image left : Image) → SameOutside S.inside image left → P.holds image → P.holds left)
         → Leaves P.holds old new }
-{
-}
+{}
 
 /// Which blocks were written since the last sync that answered Ok.
 pub fn unsynced<S: Region>()
@@ -123,5 +118,4 @@ pub fn unsynced<S: Region>()
     // outside them a crash leaves what is read
     ensures near { (s : State) (image left : Image) → UnsyncedIn S.inside s → s.shown ≡ Some image
         → MayLeave s left → SameOutside S.inside image left }
-{
-}
+{}

@@ -2,8 +2,9 @@
 #![tactic(auto)]
 
 mod device;
-mod laws;
+pub mod laws;
+mod steady;
 mod store;
 
 pub use device::Device;
-pub use laws::{Fact, Region, composition, confinement, images_now, images_since, stays_fit, unsynced};
+pub use steady::Steady;

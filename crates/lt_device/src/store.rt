@@ -1,11 +1,10 @@
 //! The blocks of a device in memory.
 
-ghost use Rattle.std.specs.Prelude.{◌≡◌, false, ◌<◌, IfOk, length, map, true, replicate, slice_get, slice_index_or, slice_set, Some};
-ghost use Rattle.lt_terms.specs.Bytes.{AreBlocks, block_at, zero_block};
-
-use std::alloc::Global;
+ghost use Rattle.std.specs.Prelude.{◌≡◌, false, ◌<◌, IfOk, length, map, true, replicate, slice_set};
+ghost use Rattle.lt_terms.specs.Bytes.{AreBlocks, IsBlock, zero_block};
 
 use lt_page::{NoMemory, Page};
+use std::alloc::Global;
 
 /// Blocks in memory, and which of them were written since the last sync.
 #[derive(Drop)]
@@ -32,6 +31,7 @@ impl Store {
         requires { block < length self.old.pages.items }
         ensures shown { self.new.pages.items ≡ slice_set self.old.pages.items block from.now }
         ensures unsure { self.new.unsynced.items ≡ slice_set self.old.unsynced.items block true }
+        ensures block { IsBlock from.now }
     {
         let page = &mut self.pages[block];
         page.copy_from(from);

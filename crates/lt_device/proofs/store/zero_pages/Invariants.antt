@@ -7,5 +7,5 @@ invariant-loop l = record {
   made : l.pages.items ≡ replicate l.counter zero_block;
   blocks : AreBlocks l.pages.items;
   few : l.pages.len ≡ l.counter;
-  room : l.count ≤ vec_capacity l.pages
+  room : l.count ≤ vec_capacity l.pages;
 }
