@@ -1,0 +1,4 @@
+pub mod Image
+pub mod Moments
+pub mod State
+pub mod Steady

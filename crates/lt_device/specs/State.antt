@@ -1,0 +1,59 @@
+-- What a device tells of itself, and how its calls change that.
+use Rattle.std.specs.Prelude.{◌≡◌, ◌⊎◌, ℕ, Bool, true, false, List, [], ◌∷◌, ◌++◌, length, map, slice_set, Option, Some, None}
+use Rattle.std.specs.Option.{option_map}
+use Rattle.lt_terms.specs.Bytes.{Image, IsBlock}
+use Rattle.lt_device.specs.Image.{IsWhole}
+
+-- a device just before a sync that answered Ok: its blocks, and which of them were written since the sync before
+pub record Epoch : Type 0 where
+  pub shown : Image
+  pub unsynced : List Bool
+
+-- what a device tells of itself, or None where it does not tell: its blocks as they read now, which of them were
+-- written since the last sync that answered Ok, and the epochs that ended so far
+pub record State : Type 0 where
+  pub shown : Option Image
+  pub unsynced : Option (List Bool)
+  pub past : Option (List Epoch)
+
+abbrev pub tells_nothing : State
+tells_nothing = record { shown = None; unsynced = None; past = None }
+
+-- one block reads as this page, and is not yet sure
+abbrev pub written : State → ℕ → List ℕ → State
+written s block page = record {
+  shown = option_map (λ image. slice_set image block page) s.shown;
+  unsynced = option_map (λ flags. slice_set flags block true) s.unsynced;
+  past = s.past;
+}
+
+-- a past with one epoch more
+abbrev pub longer_past : Option Image → Option (List Bool) → Option (List Epoch) → Option (List Epoch)
+longer_past (Some image) (Some flags) (Some epochs) = Some (epochs ++ record { shown = image; unsynced = flags } ∷ [])
+longer_past shown unsynced past = past
+
+-- every block is sure
+abbrev pub synced : State → State
+synced s = record {
+  shown = s.shown;
+  unsynced = option_map (map (λ _. false)) s.unsynced;
+  past = longer_past s.shown s.unsynced s.past;
+}
+
+-- what is told has the device's size, and nothing is told without what it rests on
+pub record IsFit (blocks : ℕ) (s : State) : Type 0 where
+  pub shown : (image : Image) → s.shown ≡ Some image → IsWhole blocks image
+  pub unsynced : (flags : List Bool) → s.unsynced ≡ Some flags → (image : Image) × (s.shown ≡ Some image) × (length flags ≡ blocks)
+  pub past : (epochs : List Epoch) → s.past ≡ Some epochs → (flags : List Bool) × (s.unsynced ≡ Some flags)
+
+-- a write, whatever it answered: the block reads as some page, and is not sure
+pub record Wrote (blocks block : ℕ) (old new : State) : Type 0 where
+  pub fit : IsFit blocks old
+  pub page : List ℕ
+  pub whole : IsBlock page
+  pub is : new ≡ written old block page
+
+-- a sync, whatever it answered: all is as it was, or sure
+pub record EndedSync (blocks : ℕ) (old new : State) : Type 0 where
+  pub fit : IsFit blocks old
+  pub either : (new ≡ old) ⊎ (new ≡ synced old)

@@ -1,0 +1,60 @@
+//! The blocks of a device in memory.
+
+ghost use Rattle.std.specs.Prelude.{◌≡◌, false, ◌<◌, IfOk, length, map, true, replicate, slice_set};
+ghost use Rattle.lt_terms.specs.Bytes.{AreBlocks, IsBlock, zero_block};
+
+use lt_page::{NoMemory, Page};
+use std::alloc::Global;
+
+/// Blocks in memory, and which of them were written since the last sync.
+#[derive(Drop)]
+pub struct Store {
+    pub pages: Vec<Page>,
+    pub unsynced: Vec<bool>,
+    ghost blocks: { AreBlocks pages.items },
+    ghost flags: { length unsynced.items ≡ length pages.items },
+}
+
+impl Store {
+    /// Blocks of zeros, all sure.
+    pub fn new(alloc: Global, blocks: u64) -> Result<Store, NoMemory>
+        ensures shown { IfOk result (λ store. store.pages.items ≡ replicate blocks zero_block) }
+        ensures sure { IfOk result (λ store. store.unsynced.items ≡ replicate blocks false) }
+    {
+        let pages = zero_pages(alloc, blocks)?;
+        let unsynced = vec![in alloc; false; blocks as usize]?;
+        Ok(Store { pages, unsynced })
+    }
+
+    /// Writes a block, which is not sure from then on.
+    pub fn write(&mut self, block: usize, from: &Page)
+        requires { block < length self.old.pages.items }
+        ensures shown { self.new.pages.items ≡ slice_set self.old.pages.items block from.now }
+        ensures unsure { self.new.unsynced.items ≡ slice_set self.old.unsynced.items block true }
+        ensures block { IsBlock from.now }
+    {
+        let page = &mut self.pages[block];
+        page.copy_from(from);
+        self.unsynced[block] = true;
+    }
+
+    /// Makes all blocks sure.
+    pub fn sync(&mut self)
+        ensures shown { self.new.pages.items ≡ self.old.pages.items }
+        ensures sure { self.new.unsynced.items ≡ map (λ _. false) self.old.unsynced.items }
+    {
+        self.unsynced.fill(false);
+    }
+}
+
+/// Pages of zeros.
+pub fn zero_pages(alloc: Global, count: u64) -> Result<Vec<Page>, NoMemory>
+    ensures zeros { IfOk result (λ pages. pages.items ≡ replicate count zero_block) }
+    ensures blocks { IfOk result (λ pages. AreBlocks pages.items) }
+{
+    let mut pages = Vec::with_capacity(alloc, count as usize)?;
+    for _ in 0..count {
+        pages.push_reserved(Page::new(alloc)?);
+    }
+    Ok(pages)
+}
