@@ -1,0 +1,2 @@
+mod Splices
+mod Readings
