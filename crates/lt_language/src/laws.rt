@@ -1,7 +1,9 @@
-//! Laws of the lines of a list of bytes.
+//! Laws of the lines of a list of bytes, and of the commands that they are.
 
 ghost use Rattle.std.specs.Bool.{IsFalse};
 ghost use Rattle.std.specs.Prelude.{◌≡◌, ℕ, List, [], ◌∷◌, ◌++◌};
+ghost use Rattle.lt_language.specs.Commands.{command_of};
+ghost use Rattle.lt_language.specs.Valid.{IsWithinLimits};
 ghost use Rattle.lt_language.specs.Lines.{line_feed, has_line_feed, split_lines, lines_of, rest_of, IsSplit};
 
 /// Bytes are lines and a rest in exactly one way.
@@ -17,4 +19,9 @@ pub fn lines_go_on()
     ensures unbroken { (a b : List ℕ) → IsFalse (has_line_feed b) → split_lines (a ++ b) ≡ (lines_of a, rest_of a ++ b) }
     // With a line feed behind them they end it.
     ensures ended { (a b : List ℕ) → IsFalse (has_line_feed b) → split_lines (a ++ (b ++ line_feed ∷ [])) ≡ (lines_of a ++ (rest_of a ++ b) ∷ [], []) }
+{}
+
+/// The commands that lines are keep to the limits of keys and values.
+pub fn commands_within_limits()
+    ensures { (line : List ℕ) → IsWithinLimits (command_of line) }
 {}

@@ -3,7 +3,7 @@
 
 mod laws;
 
-pub use laws::{lines_go_on, one_split};
+pub use laws::{commands_within_limits, lines_go_on, one_split};
 
 /// Why a line is refused.
 #[derive(Clone, Copy, Debug, PartialEq, Eq)]

@@ -1,0 +1,5 @@
+pub mod Memory
+pub mod Output
+pub mod Pieces
+pub mod Sink
+pub mod Source

@@ -1,0 +1,16 @@
+ghost use Rattle.std.specs.Prelude.{◌≡◌};
+ghost use Rattle.lt_terms.specs.Causes.{next_count};
+ghost use Rattle.lt_io.specs.Memory.{is_listed};
+
+// A count stands still at its type's end.
+pub(super) fn risen(count: u64) -> u64
+    ensures { result ≡ next_count count }
+{
+    count.saturating_add(1)
+}
+
+pub(super) fn is_listed(call: u64, calls: &[u64]) -> bool
+    ensures { result ≡ is_listed call calls.now }
+{
+    calls.iter().any(|listed| *listed == call)
+}
