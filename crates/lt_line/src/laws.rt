@@ -10,5 +10,4 @@ pub fn kept_is_enough()
     ensures goes_on { (line more : List ℕ) → kept_of (kept_of line ++ more) ≡ kept_of (line ++ more) }
     ensures none { kept_of [] ≡ [] }
     ensures nothing { (line : List ℕ) → kept_of line ≡ [] → line ≡ [] }
-{
-}
+{}

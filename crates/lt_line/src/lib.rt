@@ -4,6 +4,8 @@
 mod command;
 mod laws;
 mod lines;
+#[cfg(test)]
+mod tests;
 
 pub use command::{Command, read_command};
 pub use laws::kept_is_enough;

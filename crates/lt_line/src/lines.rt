@@ -1,10 +1,12 @@
-ghost use Rattle.std.specs.Prelude.{◌≡◌, ◌≢◌, ◌≤◌, ◌↔◌, ◌++◌, [], length, take, true, false, IsTrue, IfOk};
+ghost use Rattle.std.specs.Prelude.{◌≡◌, ◌≢◌, ◌<◌, ◌≤◌, ◌↔◌, ◌++◌, [], length, take, true, false, ◌==◌, position, IsTrue, IfOk, IfSome};
 ghost use Rattle.lt_language.specs.Commands.{command_of};
+ghost use Rattle.lt_language.specs.Lines.{line_feed};
 ghost use Rattle.lt_line.specs.Held.{kept_of, Ends, GoesOn};
 ghost use Rattle.lt_line.specs.View.{view_of};
 
 use super::command::{Command, read_command};
-use std::alloc::{AllocError, Global};
+use lt_page::NoMemory;
+use std::alloc::Global;
 use std::marker::Model;
 
 /// Lines out of pieces of any size. Of a line of any length the first 3,261 bytes are kept, which tell
@@ -31,7 +33,7 @@ impl Lines {
     /// How many bytes of a line are kept.
     const ROOM: usize = 3261;
 
-    pub fn new(alloc: Global) -> Result<Lines, AllocError>
+    pub fn new(alloc: Global) -> Result<Lines, NoMemory>
         ensures { IfOk result (λ lines. lines ≡ record { kept = []; is_ended = false }) }
     {
         let bytes = Vec::with_capacity(alloc, Lines::ROOM)?;
@@ -48,7 +50,7 @@ impl Lines {
         ensures ends { self.new.is_ended ≡ true → Ends self.old self.new (take result piece.now) }
         ensures goes_on { self.new.is_ended ≡ false → (result ≡ length piece.now) × GoesOn self.old self.new piece.now }
     {
-        match piece.iter().position(|b| *b == b'\n') {
+        match first_line_feed(piece) {
             None => {
                 self.keep(piece);
                 piece.len()
@@ -100,4 +102,11 @@ impl Lines {
         let n = chunk.len().min(Lines::ROOM - self.bytes.len());
         self.bytes.extend_from_slice(&chunk[..n]).unwrap();
     }
+}
+
+fn first_line_feed(bytes: &[u8]) -> Option<usize>
+    ensures place { result ≡ position (λ b. b == line_feed) bytes.now }
+    ensures within { IfSome result (λ at. at < length bytes.now) }
+{
+    bytes.iter().position(|b| *b == b'\n')
 }

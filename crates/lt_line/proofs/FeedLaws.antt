@@ -1,0 +1,34 @@
+-- The first line feed of a piece.
+use Rattle.std.proofs.Common.{◌≡◌, ℕ, ◌+◌, ◌<◌, ◌≤◌, refl, sym, ap, ◌∙◌, List, [], ◌∷◌, ◌++◌, length, take, get_or, nat_lt, Bool, true, false, cond, Option, Some, None, arith}
+use Rattle.std.specs.Prelude.{◌==◌}
+use Rattle.std.specs.List.{position, position_or_len, list_any}
+use Rattle.std.specs.Bool.{IsFalse}
+use Rattle.std.proofs.lemmas.Bool.{ltb-false, eqb-true}
+use Rattle.std.proofs.lemmas.List.{take_more, get_or-take, get_or_default, length-take-le}
+use Rattle.std.proofs.lemmas.List.Folds.{list_any_none}
+use Rattle.std.proofs.lemmas.List.Sums.{fails_before_first}
+use Rattle.std.proofs.lemmas.List.Quantifiers.{position-Some}
+use Rattle.lt_language.specs.Lines.{line_feed, has_line_feed}
+
+none_is_less : (b : Bool) (n : ℕ) → cond b (Some n) None ≡ None → b ≡ false
+none_is_less true n e = cc
+none_is_less false n e = refl
+
+-- there is none
+pub unbroken_where_none : (piece : List ℕ) → position (λ b. b == line_feed) piece ≡ None → IsFalse (has_line_feed piece)
+unbroken_where_none piece none =
+    let past : length piece ≤ position_or_len (λ b. b == line_feed) piece = ltb-false _ _ (none_is_less _ _ none) in
+    list_any_none (λ b. b == line_feed) piece (λ k d lt. fails_before_first (λ b. b == line_feed) piece k d (omega arith))
+
+-- before the first there is none
+pub unbroken_before : (piece : List ℕ) (at : ℕ) → position (λ b. b == line_feed) piece ≡ Some at → IsFalse (has_line_feed (take at piece))
+unbroken_before piece at found =
+    let first = position-Some (λ b. b == line_feed) piece at 0 found in
+    let len : length (take at piece) ≡ at = length-take-le at piece (omega arith) in
+    list_any_none (λ b. b == line_feed) (take at piece) (λ k d lt. ap (λ b. b == line_feed) (get_or-take at piece k d (omega arith) ∙ get_or_default piece k d 0 (omega arith)) ∙ first.2 k (omega arith))
+
+-- and there it stands
+pub ends_there : (piece : List ℕ) (at : ℕ) → position (λ b. b == line_feed) piece ≡ Some at → take (at + 1) piece ≡ take at piece ++ line_feed ∷ []
+ends_there piece at found =
+    let first = position-Some (λ b. b == line_feed) piece at 0 found in
+    take_more piece at 0 first.0 ∙ ap (λ b. take at piece ++ b ∷ []) (eqb-true _ line_feed first.1)
