@@ -1,11 +1,11 @@
 -- What is kept of a line is enough to tell its command, also as it grows.
-use Rattle.std.proofs.Common.{◌≡◌, ℕ, zero, suc, ◌+◌, ◌-◌, ◌<◌, ◌≤◌, min, refl, sym, ap, ◌∙◌, List, [], ◌∷◌, ◌++◌, length, take, nat_lt, Bool, true, false, arith, inl, inr}
+use Rattle.std.proofs.Common.{◌≡◌, ℕ, zero, suc, ◌+◌, ◌-◌, ◌<◌, ◌≤◌, min, refl, sym, ap, ◌∙◌, List, [], ◌∷◌, ◌++◌, length, take, arith, inl, inr}
 use Rattle.std.proofs.lemmas.List.{length-take-le, take_all, take_min}
 use Rattle.std.proofs.lemmas.Bool.{lt-ltb, cases_lt}
 use Rattle.std.proofs.Math.Nat.{min_comm}
 use Rattle.std.proofs.Math.Seq.{take-append-add}
 use Rattle.lt_language.specs.declared.Bad.TheVariants.{Long}
-use Rattle.lt_language.specs.Commands.{Command, bad, command_of}
+use Rattle.lt_language.specs.Commands.{bad, command_of}
 use Rattle.lt_line.specs.Held.{kept_of}
 
 take-take-append : (n : ℕ) (line more : List ℕ) → take n (take n line ++ more) ≡ take n (line ++ more)

@@ -1,5 +1,5 @@
 -- What a buffer of bounded size keeps of a line of any length.
-use Rattle.std.specs.Prelude.{◌≡◌, ℕ, Bool, false, List, [], ◌∷◌, ◌++◌, take}
+use Rattle.std.specs.Prelude.{◌≡◌, ℕ, Bool, List, [], ◌∷◌, ◌++◌, take}
 use Rattle.std.specs.Bool.{IsFalse}
 use Rattle.lt_language.specs.Lines.{line_feed, has_line_feed}
 

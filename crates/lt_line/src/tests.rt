@@ -83,21 +83,29 @@ fn limits_are_kept(rt: HostRuntime) -> Result<(), NoMemory> {
 fn lines_come_out_of_pieces_however_they_are_cut(rt: HostRuntime) -> Result<(), NoMemory> {
     let mut lines = Lines::new(rt.alloc())?;
     assert_eq!(rt; lines.feed(b"get"), 3);
-    assert!(rt; !lines.ready() && lines.has_rest());
+    assert!(rt; !lines.ready());
+    assert!(rt; lines.has_rest());
     assert_eq!(rt; lines.feed(b" a\nstat\n"), 3);
     assert!(rt; lines.ready());
     assert_eq!(rt; lines.command(), Command::Get { key: b"a" });
     lines.next();
-    assert!(rt; !lines.ready() && !lines.has_rest());
+    assert!(rt; !lines.has_rest());
     assert_eq!(rt; lines.feed(b"stat\n"), 5);
+    assert!(rt; lines.ready());
     assert_eq!(rt; lines.command(), Command::Stat);
-    lines.next();
+    Ok(())
+}
 
-    let long = vec![in rt.alloc(); b'k'; 3000]?;
-    assert_eq!(rt; lines.feed(b"get "), 4);
-    assert_eq!(rt; lines.feed(&long), 3000);
-    assert_eq!(rt; lines.feed(&long), 3000);
+#[test]
+fn a_long_line_in_two_pieces_is_refused(rt: HostRuntime) -> Result<(), NoMemory> {
+    let mut lines = Lines::new(rt.alloc())?;
+    let piece = key_of(rt.alloc(), 3000)?;
+    assert_eq!(rt; lines.feed(&piece), 3000);
+    assert!(rt; !lines.ready());
+    assert_eq!(rt; lines.feed(&piece), 3000);
+    assert!(rt; !lines.ready());
     assert_eq!(rt; lines.feed(b"\n"), 1);
+    assert!(rt; lines.ready());
     assert_eq!(rt; lines.command(), Command::Bad(Bad::Long));
     Ok(())
 }

@@ -1,4 +1,4 @@
-use Rattle.std.proofs.Common.{◌≡◌, ◌∙◌, sym, ap, refl, take}
+use Rattle.std.proofs.Common.{◌∙◌, sym, ap, refl, take}
 use Rattle.lt_line.proofs.FeedLaws.{unbroken_where_none, unbroken_before, ends_there}
 use Rattle.lt_line.proofs.lines.Lines.feed.Goals as goal
 

@@ -1,4 +1,4 @@
-use Rattle.std.proofs.Common.{◌≡◌, ◌≤◌, ◌-◌, ◌++◌, ◌∙◌, sym, ap, min, length, arith}
+use Rattle.std.proofs.Common.{◌≡◌, ◌-◌, ◌++◌, ◌∙◌, sym, ap, min, length, arith}
 use Rattle.lt_line.specs.Held.{kept_of}
 use Rattle.lt_line.proofs.HeldLaws.{kept_of-room}
 use Rattle.lt_line.proofs.lines.Lines.keep.Goals as goal
