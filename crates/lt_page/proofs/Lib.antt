@@ -1,1 +1,3 @@
+pub mod BlockForm
+pub mod BlockSteps
 pub mod Zeros

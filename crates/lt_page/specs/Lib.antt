@@ -1,1 +1,3 @@
+pub mod Block
+pub mod Follows
 pub mod Page

@@ -4,6 +4,7 @@ ghost use Rattle.std.specs.Prelude.{◌≡◌, ◌+◌, ◌<◌, ◌≤◌, ◌�
 ghost use Rattle.lt_terms.specs.Bytes.{IsBlock, zero_block, u16_at, u32_at};
 ghost use Rattle.lt_page.specs.Page.{filled};
 
+use super::block::{Block, Vacant};
 use super::errors::NoMemory;
 use std::alloc::Global;
 use std::marker::Model;
@@ -11,7 +12,7 @@ use std::marker::Model;
 /// 4,096 bytes, all zeros at first.
 #[derive(Drop)]
 pub struct Page {
-    bytes: Vec<u8>,
+    block: Block<[u8; Page::LEN], Global>,
 }
 
 impl Model for Page {
@@ -20,9 +21,9 @@ impl Model for Page {
 
     ghost Value = { List ℕ };
 
-    ghost view = { λ page. page.bytes.items };
+    ghost view = { λ page. page.block.value };
 
-    ghost invariant = { λ page. IsBlock page.bytes.items };
+    ghost invariant = { λ page. IsBlock page.block.value };
 }
 
 impl Page {
@@ -34,8 +35,12 @@ impl Page {
         ensures zeros { IfOk result (λ page. page ≡ zero_block) }
         ensures block { IfOk result IsBlock }
     {
-        let bytes = vec![in alloc; 0; Page::LEN]?;
-        Ok(Page { bytes })
+        match Vacant::take(alloc) {
+            Ok(room) => Ok(Page {
+                block: room.fill([0; Page::LEN]),
+            }),
+            Err(_) => Err(NoMemory),
+        }
     }
 
     /// The byte at a place below 4,096.
@@ -44,15 +49,15 @@ impl Page {
         ensures byte { result ≡ slice_index self.now at }
         ensures block { IsBlock self.now }
     {
-        self.bytes[at]
+        self.block.as_ref()[at]
     }
 
-    /// All 4,096 bytes.
+    /// All 4,096 bytes. While they are lent the compiler refuses each call that changes the page.
     pub fn bytes(&self) -> &[u8]
         ensures bytes { result.now ≡ self.now }
         ensures block { IsBlock self.now }
     {
-        &self.bytes
+        self.block.as_ref()
     }
 
     /// Sets the byte at a place below 4,096.
@@ -61,7 +66,7 @@ impl Page {
         ensures set { self.new ≡ slice_set self.old at value }
         ensures block { IsBlock self.new }
     {
-        self.bytes[at] = value;
+        self.block.as_mut()[at] = value;
     }
 
     /// Puts the bytes, which fit from this place on.
@@ -70,7 +75,7 @@ impl Page {
         ensures filled { self.new ≡ filled self.old at bytes.now }
         ensures block { IsBlock self.new }
     {
-        self.bytes[at..at + bytes.len()].copy_from_slice(bytes);
+        self.block.as_mut()[at..at + bytes.len()].copy_from_slice(bytes);
     }
 
     /// The number in the two bytes from this place on.
@@ -79,7 +84,8 @@ impl Page {
         ensures number { result ≡ u16_at self.now at }
         ensures block { IsBlock self.now }
     {
-        u16::from_be_bytes([self.bytes[at], self.bytes[at + 1]])
+        let bytes = self.block.as_ref();
+        u16::from_be_bytes([bytes[at], bytes[at + 1]])
     }
 
     /// The number in the four bytes from this place on.
@@ -88,7 +94,7 @@ impl Page {
         ensures number { result ≡ u32_at self.now at }
         ensures block { IsBlock self.now }
     {
-        let bytes = &self.bytes;
+        let bytes = self.block.as_ref();
         u32::from_be_bytes([bytes[at], bytes[at + 1], bytes[at + 2], bytes[at + 3]])
     }
 
@@ -97,7 +103,7 @@ impl Page {
         ensures same { self.new ≡ other.now }
         ensures block { IsBlock self.new }
     {
-        self.bytes.copy_from_slice(&other.bytes);
+        *self.block.as_mut() = *other.block.as_ref();
     }
 
     /// Makes all bytes 0.
@@ -105,7 +111,7 @@ impl Page {
         ensures zeros { self.new ≡ zero_block }
         ensures block { IsBlock self.new }
     {
-        self.bytes.fill(0);
+        *self.block.as_mut() = [0; Page::LEN];
     }
 
     /// Whether all bytes are 0.
@@ -113,7 +119,7 @@ impl Page {
         ensures zeros { IsTrue result ↔ (self.now ≡ zero_block) }
         ensures block { IsBlock self.now }
     {
-        all_zero(&self.bytes)
+        all_zero(self.block.as_ref())
     }
 }
 
