@@ -1,4 +1,5 @@
-//! One value in a block of memory of its own. Only the five functions of this file touch pointers.
+//! One value in a block of memory of its own. Five functions touch pointers: `take`, `fill`, `free`,
+//! `as_ref` and `as_mut`.
 
 ghost use Rattle.std.specs.Prelude.{◌≡◌, MatchResult};
 ghost use Rattle.std.specs.Borrow.{sem};

@@ -5,7 +5,7 @@ use mathlib.Core.List.{List, [], ◌∷◌, ◌++◌}
 use seplogic.Ra.Ura.{Ura}
 use base.Fraction.{full_share}
 use base.Logic.{SProp, ent, sep, emp, via, fst∗}
-use base.Fml.{ftrue, froom}
+use base.Fml.{ftrue, fat, froom}
 use mir.Syntax.{Fn}
 use mir.MapTy.{inst_fn}
 use mir.Val.{Val}
@@ -66,9 +66,16 @@ module _ (E : Types) {M : Type 1} {𝓤 : Ura M} (𝓛 : Logic 𝓤) (C : Calls 
   abbrev Had : ℕ → ℕ → Val → Val → SProp 𝓤
   Had b o handle v = sep 𝓤 (H.room (τ_bare E) b o) (sep 𝓤 (sem 𝓛 (E.value.own_val x (v ∷ []))) (sep 𝓤 (sem 𝓛 (token E.from a (τ_bare E) (block_ptr b o))) (sem 𝓛 ((From E).own_val a (handle ∷ [])))))
 
+  exits : (b o : ℕ) (handle v : Val) → ent 𝓤 (sep 𝓤 (H.at full_share (τ E) b o v) (sep 𝓤 (sem 𝓛 (E.value.own_val x (v ∷ []))) (sep 𝓤 (sem 𝓛 (token E.from a (τ_bare E) (block_ptr b o))) (sem 𝓛 ((From E).own_val a (handle ∷ [])))))) (Post (word E handle b o))
+  exits b o handle v =
+      let filled : (Block E).Denot = record { at = block_ptr b o; alloc = a; value = x } in
+      qed 𝓛 (‵ (fat full_share (τ E) b o v) ∷ ‵ (E.value.own_val x (v ∷ [])) ∷ ‵ (token E.from a (τ_bare E) (block_ptr b o)) ∷ ‵ ((From E).own_val a (handle ∷ [])) ∷ []) ∵
+      use2 𝓛 (‵ (part_at (Value E) full_share x b o)) (value_in E 𝓛 x b o v) $ block_in E ! filled b o x refl refl $
+      suffices ! _ (ends_at 𝓛 (ended E) (stayed E) (spec E 𝓤) bound (word E handle b o) filled ((tt, (tt, tt)), (tt, tt)) (tt, (tt, tt))) $ says ! refl $
+      nothing ! $ nothing ! $ fjoin ! $ nothing ! $ fjoin ! $ join ! $ nothing ! $ join ! $ done !
+
   walk : (b o : ℕ) (handle v : Val) → Fits E.from handle → Good E v → ent 𝓤 (Had b o handle v) (WpFn 𝓤 H C Λ (fn' E) (word E handle b o ∷ v ∷ []) Post)
   walk b o handle v fits good =
-      let filled : (Block E).Denot = record { at = block_ptr b o; alloc = a; value = x } in
       qed 𝓛 (‵ (froom (τ_bare E) b o) ∷ ‵ (E.value.own_val x (v ∷ [])) ∷ ‵ (token E.from a (τ_bare E) (block_ptr b o)) ∷ ‵ ((From E).own_val a (handle ∷ [])) ∷ []) ∵
       use1 𝓛 (‵ (froom (τ E) b o)) (𝓛.laws.raw-room (τ E) b o) $ enter ! C Λ (fn' E) (word E handle b o ∷ v ∷ []) _ $
       alloc_all ! (λ l. pass_all ! refl (vacant_typed E handle b o fits, (good, tt)) $
@@ -78,9 +85,7 @@ module _ (E : Types) {M : Type 1} {𝓤 : Ura M} (𝓛 : Logic 𝓤) (C : Calls 
       exec ! C Λ En (after 3 (fn' E).body) (at_ret En Post) $
       sets ! (of_opd ! (get ! refl)) refl fits $ sets ! (agg ! (and_then ! (get ! refl) (and_then ! (get ! refl) (no_more !)))) refl (block_typed E handle b o fits) $
       returns ! (look_at ! 0 refl) $ free_all ! refl $
-      use2 𝓛 (‵ (part_at (Value E) full_share x b o)) (value_in E 𝓛 x b o v) $ block_in E ! filled b o x refl refl $
-      suffices ! _ (ends_at 𝓛 (ended E) (stayed E) (spec E 𝓤) bound (word E handle b o) filled ((tt, (tt, tt)), (tt, tt)) (tt, (tt, tt))) $ says ! refl $
-      nothing ! $ nothing ! $ fjoin ! $ nothing ! $ fjoin ! $ join ! $ nothing ! $ join ! $ done !)
+      keep ! (0 ∷ 1 ∷ 2 ∷ 3 ∷ []) $ by ! (exits b o handle v))
 
   entry : ent 𝓤 (on_entry 𝓛 (ended E).signature tt tt (room, (x, tt)) (us, (vs, tt))) (WpFn 𝓤 H C Λ (fn' E) (us ++ (vs ++ [])) Post)
   entry =
