@@ -2,9 +2,14 @@
 #![tactic(auto)]
 
 mod device;
+mod history;
 pub mod laws;
+mod memory;
+mod pick;
 mod steady;
 mod store;
 
 pub use device::Device;
+pub use memory::MemDevice;
+pub use pick::Pick;
 pub use steady::Steady;
