@@ -4,12 +4,15 @@
 mod device;
 mod history;
 pub mod laws;
-mod memory;
+mod mem_device;
 mod pick;
 mod steady;
 mod store;
 
 pub use device::Device;
-pub use memory::MemDevice;
+pub use mem_device::MemDevice;
 pub use pick::Pick;
 pub use steady::Steady;
+
+#[cfg(test)]
+mod tests;

@@ -4,7 +4,7 @@ use Rattle.lt_device.specs.History.{made, stable_of}
 use Rattle.lt_device.specs.Memory.{Memory, IsPicked, left_at}
 use Rattle.lt_device.proofs.Histories.{IsStable-history}
 use Rattle.lt_device.proofs.Picks.{IsPicked-each, MayLeave-picked}
-use Rattle.lt_device.proofs.memory.MemDevice.leave.Goals as goal
+use Rattle.lt_device.proofs.mem_device.MemDevice.leave.Goals as goal
 
 pub returns-clause-picked : goal.returns-clause-picked
 returns-clause-picked c =

@@ -3,7 +3,7 @@ use Rattle.std.proofs.lemmas.List.{get_or_read}
 use Rattle.lt_terms.specs.Bytes.{block_at}
 use Rattle.lt_device.specs.History.{made}
 use Rattle.lt_device.proofs.Histories.{Adds, adds}
-use Rattle.lt_device.proofs.memory.MemDevice.record.Goals as goal
+use Rattle.lt_device.proofs.mem_device.MemDevice.record.Goals as goal
 
 recorded : (c : goal.After-write-2) → Adds c.args.block c.self.inside.store.pages.items c.write-2.new.self.pages.items (made c.self.inside.history) (made c.write.new.self)
 recorded c =

@@ -1,7 +1,7 @@
 use Rattle.std.proofs.Common.{◌<◌, [], length, rules}
 use Rattle.std.proofs.lemmas.List.{set-get_or}
 use Rattle.lt_terms.specs.Bytes.{block_at}
-use Rattle.lt_device.proofs.memory.MemDevice.unsettle.Goals as goal
+use Rattle.lt_device.proofs.mem_device.MemDevice.unsettle.Goals as goal
 
 -- the block reads as it did
 pub returns-clause-wrote : goal.returns-clause-wrote

@@ -4,7 +4,7 @@ use Rattle.std.proofs.lemmas.List.{length-set}
 use Rattle.lt_device.specs.History.{made, stable_of, past_of}
 use Rattle.lt_device.specs.Memory.{IsClean}
 use Rattle.lt_device.proofs.Histories.{IsHistoryOf-empty, stable_of-clean}
-use Rattle.lt_device.proofs.memory.MemDevice.patch.Goals as goal
+use Rattle.lt_device.proofs.mem_device.MemDevice.patch.Goals as goal
 
 clean : (c : goal.After-clear) → All (λ flag. flag ≡ false) c.self.inside.store.unsynced.items
 clean c = subst IsClean (sym c.self.view_is) c.requires.clean
