@@ -15,7 +15,7 @@ pub record Memory : Type 0 where
   pub unsynced : List Bool
   -- the epochs that ended with a sync that answered Ok
   pub past : List Epoch
-  -- how many writes and syncs the record holds, and how many more it has room for
+  -- how many writes and syncs the history holds, and how many more it has room for
   pub limit : ℕ
   pub room : ℕ
   pub reads : ℕ
@@ -55,7 +55,7 @@ is_stopped (Some stop) call = nat_le stop call
 abbrev pub is_failing : Memory → Bool
 is_failing d = list_any (λ call. call == d.calls) d.failing || is_stopped d.stop d.calls
 
--- the record has no room for a write or a sync
+-- the history has no room for a write or a sync
 abbrev pub is_full : Memory → Bool
 is_full d = d.room == 0
 
@@ -102,7 +102,7 @@ after_sync d = if is_failing d || is_full d then called d true else called (made
 abbrev pub IsClean : Memory → Type 0
 IsClean d = All (λ flag. flag ≡ false) d.unsynced
 
--- one block set, as it reads and as it is stable, and an empty record
+-- one block set, as it reads and as it is stable, and an empty history
 abbrev pub patched : Memory → ℕ → List ℕ → Memory
 patched d block page = record d {
   shown = slice_set d.shown block page;

@@ -16,12 +16,16 @@ use lt_page::{Failed, NoMemory, Page};
 use std::alloc::Global;
 use std::marker::Model;
 
-/// A device in memory that tells all: its blocks, the images that a crash may leave now, and those since a time.
+/// A device in memory that tells all: its blocks, the images that a crash may leave now, and those
+/// since a time.
 ///
-/// It keeps a history of so many writes and syncs, and a write or sync past it fails. The calls of `read`, `write`
-/// and `sync` are numbered together from 0: those that are listed fail, and so does every call from the stop on.
-/// A write that fails is made nevertheless if the history has room, and else leaves the block as it reads; in both
-/// cases the block is not sure. A read or a sync that fails does nothing.
+/// The calls of `read`, `write` and `sync` are numbered together from 0. Those that are listed
+/// fail, and so does each call from the stop on. The device keeps a history of its writes and of
+/// the syncs that answered Ok, up to a limit: a write or sync past it fails too.
+///
+/// A write that fails is made nevertheless if the history has room, and else leaves the block as it
+/// reads; in both cases the block is not sure. A read or a sync that fails does nothing, and is not
+/// recorded. A call looks through the whole list.
 #[derive(Drop)]
 pub struct MemDevice {
     store: Store,
@@ -55,11 +59,14 @@ impl Model for MemDevice {
       stop = d.stop;
     } };
 
-    ghost invariant = { λ d. IsHistoryOf (length d.store.pages.items) d.store.unsynced.items d.history.room (made d.history) };
+    ghost invariant = { λ d. IsHistoryOf (length d.store.pages.items) d.store.unsynced.items
+        d.history.room (made d.history) };
 }
 
 impl MemDevice {
-    /// A device of so many blocks of zeros, with room for so many writes and syncs.
+    /// A device of so many blocks of zeros, none of them written since the last sync, with no
+    /// fault. `limit` is how many writes and syncs it records; `failing` has the numbers of the
+    /// calls that fail, and `stop` the number of the first of those that all fail.
     pub fn new(
         alloc: Global,
         blocks: u64,
@@ -67,13 +74,15 @@ impl MemDevice {
         failing: Vec<u64>,
         stop: Option<u64>,
     ) -> Result<MemDevice, NoMemory>
-        ensures { IfOk result (λ device. device ≡ fresh (replicate blocks zero_block) limit failing.items stop) }
+        ensures { IfOk result
+            (λ device. device ≡ fresh (replicate blocks zero_block) limit failing.items stop) }
     {
         MemDevice::over(alloc, zero_pages(alloc, blocks)?, limit, failing, stop)
     }
 
-    /// What a crash leaves: a fresh device over one image. Of the blocks that were written since the last sync, the
-    /// k-th in rising block number follows the k-th pick, or `Pick::Stable` past the list.
+    /// What a crash leaves: a fresh device over one image, with the last three arguments as in
+    /// `new`. Of the blocks that were written since the last sync that answered Ok, the k-th in
+    /// rising block number follows the k-th pick, or `Pick::Stable` past the list.
     pub fn crash(
         &self,
         alloc: Global,
@@ -84,14 +93,16 @@ impl MemDevice {
     ) -> Result<MemDevice, NoMemory>
         ensures picked { IfOk result (λ device. IsPicked picks.now self.now device.shown) }
         ensures left { IfOk result (λ device. MayLeave (memory_state self.now) device.shown) }
-        ensures fresh { IfOk result (λ device. device ≡ fresh device.shown limit failing.items stop) }
+        ensures fresh { IfOk result
+            (λ device. device ≡ fresh device.shown limit failing.items stop) }
     {
         let mut pages = copies(alloc, &self.store.pages)?;
         self.leave(picks, &mut pages);
         MemDevice::over(alloc, pages, limit, failing, stop)
     }
 
-    /// Sets a block, as it reads and as it is stable, and empties the history.
+    /// Sets a block, as it reads and as it is stable, and empties the history. This is no call of
+    /// the device.
     pub fn patch(&mut self, block: u64, page: &Page)
         requires below { block < length self.old.shown }
         requires clean { IsClean self.old }
@@ -184,7 +195,8 @@ impl MemDevice {
         requires below { block < length self.old.shown }
         requires room { 0 < self.old.room }
         ensures recorded { self.new ≡ recorded self.old block from.now }
-        ensures wrote { Wrote (length self.old.shown) block (memory_state self.old) (memory_state self.new) }
+        ensures wrote { Wrote (length self.old.shown) block
+            (memory_state self.old) (memory_state self.new) }
     {
         self.history.write(block, &self.store.pages[block as usize]);
         self.store.write(block as usize, from);
@@ -195,7 +207,8 @@ impl MemDevice {
         requires below { block < length self.old.shown }
         requires full { self.old.room ≡ 0 }
         ensures unsure { self.new ≡ unsure self.old block }
-        ensures wrote { Wrote (length self.old.shown) block (memory_state self.old) (memory_state self.new) }
+        ensures wrote { Wrote (length self.old.shown) block
+            (memory_state self.old) (memory_state self.new) }
     {
         self.store.unsynced[block as usize] = true;
     }
@@ -264,8 +277,10 @@ impl Device for MemDevice {
         ensures fails { IsErr result ↔ IsTrue (is_failing self.old || is_full self.old) }
         ensures becomes { self.new ≡ after_write self.old block from.now }
 
-        ensures ok { OnOk result (memory_state self.new ≡ written (memory_state self.old) block from.now) }
-        ensures wrote { Wrote (length self.old.shown) block (memory_state self.old) (memory_state self.new) }
+        ensures ok { OnOk result
+            (memory_state self.new ≡ written (memory_state self.old) block from.now) }
+        ensures wrote { Wrote (length self.old.shown) block
+            (memory_state self.old) (memory_state self.new) }
         ensures size { length self.new.shown ≡ length self.old.shown }
         ensures count { self.new.reads ≡ self.old.reads }
         ensures cause { HasCause self.old.faults self.new.faults result }
@@ -285,7 +300,8 @@ impl Device for MemDevice {
 
         ensures ok { OnOk result (memory_state self.new ≡ synced (memory_state self.old)) }
         ensures err { OnErr result (memory_state self.new ≡ memory_state self.old) }
-        ensures ended { EndedSync (length self.old.shown) (memory_state self.old) (memory_state self.new) }
+        ensures ended { EndedSync (length self.old.shown)
+            (memory_state self.old) (memory_state self.new) }
         ensures size { length self.new.shown ≡ length self.old.shown }
         ensures count { self.new.reads ≡ self.old.reads }
         ensures cause { HasCause self.old.faults self.new.faults result }

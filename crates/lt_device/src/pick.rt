@@ -46,7 +46,8 @@ fn pick_at(picks: &[Pick], place: usize) -> Pick
 pub fn choose(picks: &[Pick], store: &Store, pages: &mut [Page])
     requires size { length pages.old ≡ length store.now.pages.items }
     requires blocks { AreBlocks pages.old }
-    ensures each { EachIndex pages.old (λ k. block_at pages.new k ≡ left_at picks.now store.now.unsynced.items pages.old store.now.pages.items k) }
+    ensures each { EachIndex pages.old (λ k. block_at pages.new k
+        ≡ left_at picks.now store.now.unsynced.items pages.old store.now.pages.items k) }
     ensures blocks { AreBlocks pages.new }
 {
     let mut next = 0;

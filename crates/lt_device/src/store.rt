@@ -28,7 +28,8 @@ impl Store {
     pub fn over(alloc: Global, pages: Vec<Page>) -> Result<Store, NoMemory>
         requires { AreBlocks pages.items }
         ensures shown { IfOk result (λ store. store.pages.items ≡ pages.items) }
-        ensures sure { IfOk result (λ store. store.unsynced.items ≡ replicate (length pages.items) false) }
+        ensures sure { IfOk result
+            (λ store. store.unsynced.items ≡ replicate (length pages.items) false) }
     {
         let unsynced = vec![in alloc; false; pages.len()]?;
         Ok(Store { pages, unsynced })
