@@ -27,7 +27,7 @@ pub block_at-set_same : (image : Image) (b : ℕ) (page : List ℕ) → b < leng
 block_at-set_same image b page below = get_or-set_same image b page [] below
 
 -- past the end of both
-both_past : (a b : Image) (k : ℕ) → length a ≤ k → length b ≤ k → block_at a k ≡ block_at b k
+pub both_past : (a b : Image) (k : ℕ) → length a ≤ k → length b ≤ k → block_at a k ≡ block_at b k
 both_past a b k past_a past_b = get_or_past a k [] past_a ∙ sym (get_or_past b k [] past_b)
 
 pub IsWhole-set : (n : ℕ) (image : Image) (b : ℕ) (page : List ℕ) → IsWhole n image → IsBlock page → IsWhole n (set image b page)

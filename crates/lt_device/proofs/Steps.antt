@@ -3,8 +3,8 @@ use Rattle.std.proofs.Common.{◌≡◌, ◌⊎◌, inl, inr, ⊎_elim, ℕ, zer
 use Rattle.std.specs.Option.{option_map}
 use Rattle.std.proofs.lemmas.List.{length-set}
 use Rattle.lt_terms.specs.Bytes.{Image, IsBlock, block_at}
-use Rattle.lt_device.specs.Image.{IsWhole, IsCrashOf}
-use Rattle.lt_device.specs.State.{Epoch, State, written, synced, longer_past, Wrote, IsFit}
+use Rattle.lt_device.specs.Image.{IsWhole, IsCrashOf, SameOutside}
+use Rattle.lt_device.specs.State.{Epoch, State, written, synced, longer_past, Wrote, EndedSync, IsFit}
 use Rattle.lt_device.specs.Moments.{MayLeave, clock, length_of_past, InOneOf, LeftSince, IsNear}
 use Rattle.lt_device.proofs.Images.{block_at-set_same, block_at-set_other, crash_before_write, crash_any_page, crash_after_write, crash_none, crash_only, all_sure}
 
@@ -96,6 +96,21 @@ written_shown n b old new page fit below is image shown =
     let before = option_map-Some (λ (i : Image). set i b page) old.shown image (sym (ap (λ (s : State). s.shown) is) ∙ shown) in
     let size = (fit.shown before.0 before.1).size in
     subst (λ (i : Image). block_at i b ≡ page) before.2 (block_at-set_same before.0 b page (omega arith))
+
+-- all others, whatever it answered
+pub wrote_others : (n b : ℕ) (old new : State) (before : Image) → Wrote n b old new → old.shown ≡ Some before → (image : Image) × (new.shown ≡ Some image) × SameOutside (λ k. k ≡ b) before image
+wrote_others n b old new before wrote is = (
+  set before b wrote.page,
+  ap (λ (s : State). s.shown) wrote.is ∙ ap (option_map (λ (i : Image). set i b wrote.page)) is,
+  record { size = length-set before b wrote.page; others = λ k out. block_at-set_other before b k wrote.page out },
+)
+
+-- a sync, whatever it answered
+pub ended_shown : (n : ℕ) (old new : State) → EndedSync n old new → new.shown ≡ old.shown
+ended_shown n old new sync = ⊎_elim
+    (λ (same : new ≡ old). ap (λ (s : State). s.shown) same)
+    (λ (done : new ≡ synced old). ap (λ (s : State). s.shown) done)
+    sync.either
 
 -- ---- epochs
 

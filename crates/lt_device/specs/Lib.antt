@@ -1,4 +1,6 @@
+pub mod History
 pub mod Image
+pub mod Memory
 pub mod Moments
 pub mod State
 pub mod Steady

@@ -16,7 +16,8 @@ abbrev pub length_of_past : Option (List Epoch) → ℕ
 length_of_past None = 0
 length_of_past (Some epochs) = length epochs
 
--- the moment, as the number of syncs that answered Ok: between two of them the images only grow more
+-- the moment, as the number of syncs that answered Ok: between two of them the images only grow more, so that those of
+-- a moment inside a call are among those before it or after it
 abbrev pub clock : State → ℕ
 clock s = length_of_past s.past
 

@@ -10,10 +10,11 @@ use lt_page::{Failed, Page};
 
 /// Blocks of 4,096 bytes, numbered from 0.
 ///
-/// A crash leaves an image: every block as it was at the last sync that answered Ok, except that each block
-/// written since then, by a write that answered Ok or `Failed`, holds any 4,096 bytes. A device tells of itself
-/// what it can: its blocks as they read now, which of them were written since the last sync, and the same for
-/// each time before a sync that answered Ok. Each call is an equation on what it tells.
+/// A crash leaves an image: every block as it was at the last sync that answered Ok, except that
+/// each block written since then, by a write that answered Ok or `Failed`, holds any 4,096 bytes. A
+/// device tells of itself what it can: its blocks as they read now, which of them were written
+/// since the last sync, and the same for each time before a sync that answered Ok. Each call is an
+/// equation on what it tells.
 pub trait Device {
     /// The number of blocks. It never changes.
     ghost blocks: { Self → ℕ };
@@ -36,18 +37,19 @@ pub trait Device {
     fn reads(&self) -> u64
         ensures { result ≡ reads self.now };
 
-    /// Reads a block into the page. After `Failed` the page holds any bytes. Whatever it answers, all blocks read
-    /// as before.
+    /// Reads a block into the page. After `Failed` the page holds any bytes. Whatever it answers,
+    /// all blocks read as before.
     fn read(&mut self, block: u64, into: &mut Page) -> Result<(), Failed>
         requires { block < blocks self.old }
-        ensures content { OnOk result (ForSome (state self.old).shown (λ image. into.new ≡ block_at image block)) }
+        ensures content { OnOk result
+            (ForSome (state self.old).shown (λ image. into.new ≡ block_at image block)) }
         ensures state { state self.new ≡ state self.old }
         ensures size { blocks self.new ≡ blocks self.old }
         ensures count { CountsOne (reads self.old) (reads self.new) }
         ensures cause { HasCause (faults self.old) (faults self.new) result };
 
-    /// Writes a block. After `Failed` the block reads as any 4,096 bytes. In both cases all other blocks read as
-    /// before.
+    /// Writes a block. After `Failed` the block reads as any 4,096 bytes. In both cases all other
+    /// blocks read as before.
     fn write(&mut self, block: u64, from: &Page) -> Result<(), Failed>
         requires { block < blocks self.old }
         ensures ok { OnOk result (state self.new ≡ written (state self.old) block from.now) }

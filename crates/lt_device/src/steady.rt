@@ -13,7 +13,8 @@ use lt_page::{Failed, NoMemory, Page};
 use std::alloc::Global;
 use std::marker::Model;
 
-/// A device in memory that never fails. It tells its blocks and the images that a crash may leave now.
+/// A device in memory that never fails. It tells its blocks and the images that a crash may leave
+/// now.
 #[derive(Drop)]
 pub struct Steady {
     store: Store,
@@ -25,7 +26,11 @@ impl Model for Steady {
 
     ghost Value = { Contents };
 
-    ghost view = { λ d. record { shown = d.store.pages.items; unsynced = d.store.unsynced.items; reads = d.reads } };
+    ghost view = { λ d. record {
+      shown = d.store.pages.items;
+      unsynced = d.store.unsynced.items;
+      reads = d.reads;
+    } };
 }
 
 impl Steady {
@@ -79,7 +84,8 @@ impl Device for Steady {
         requires { block < length self.old.shown }
         ensures answers { IsOk result }
         ensures ok { steady_state self.new ≡ written (steady_state self.old) block from.now }
-        ensures wrote { Wrote (length self.old.shown) block (steady_state self.old) (steady_state self.new) }
+        ensures wrote { Wrote (length self.old.shown) block
+            (steady_state self.old) (steady_state self.new) }
         ensures size { length self.new.shown ≡ length self.old.shown }
         ensures count { self.new.reads ≡ self.old.reads }
     {
@@ -90,7 +96,8 @@ impl Device for Steady {
     fn sync(&mut self) -> Result<(), Failed>
         ensures answers { IsOk result }
         ensures ok { steady_state self.new ≡ synced (steady_state self.old) }
-        ensures ended { EndedSync (length self.old.shown) (steady_state self.old) (steady_state self.new) }
+        ensures ended { EndedSync (length self.old.shown)
+            (steady_state self.old) (steady_state self.new) }
         ensures size { length self.new.shown ≡ length self.old.shown }
         ensures count { self.new.reads ≡ self.old.reads }
     {

@@ -21,8 +21,17 @@ impl Store {
         ensures shown { IfOk result (λ store. store.pages.items ≡ replicate blocks zero_block) }
         ensures sure { IfOk result (λ store. store.unsynced.items ≡ replicate blocks false) }
     {
-        let pages = zero_pages(alloc, blocks)?;
-        let unsynced = vec![in alloc; false; blocks as usize]?;
+        Store::over(alloc, zero_pages(alloc, blocks)?)
+    }
+
+    /// These blocks, all sure.
+    pub fn over(alloc: Global, pages: Vec<Page>) -> Result<Store, NoMemory>
+        requires { AreBlocks pages.items }
+        ensures shown { IfOk result (λ store. store.pages.items ≡ pages.items) }
+        ensures sure { IfOk result
+            (λ store. store.unsynced.items ≡ replicate (length pages.items) false) }
+    {
+        let unsynced = vec![in alloc; false; pages.len()]?;
         Ok(Store { pages, unsynced })
     }
 
@@ -57,4 +66,18 @@ pub fn zero_pages(alloc: Global, count: u64) -> Result<Vec<Page>, NoMemory>
         pages.push_reserved(Page::new(alloc)?);
     }
     Ok(pages)
+}
+
+/// The same pages again.
+pub fn copies(alloc: Global, pages: &[Page]) -> Result<Vec<Page>, NoMemory>
+    ensures same { IfOk result (λ copies. copies.items ≡ pages.now) }
+    ensures blocks { IfOk result (λ copies. AreBlocks copies.items) }
+{
+    let mut copies = Vec::with_capacity(alloc, pages.len())?;
+    for page in pages {
+        let mut copy = Page::new(alloc)?;
+        copy.copy_from(page);
+        copies.push_reserved(copy);
+    }
+    Ok(copies)
 }
