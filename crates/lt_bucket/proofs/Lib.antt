@@ -1,0 +1,2 @@
+mod ItemsOf
+mod Lookups
