@@ -1,2 +1,5 @@
 mod ItemsOf
 mod Lookups
+mod BucketPages
+mod Growing
+mod Finished
