@@ -54,9 +54,9 @@ fn one_item_on_a_page(rt: HostRuntime) -> Result<(), Fail> {
 fn suffixes_from_the_mark_on_are_sent(rt: HostRuntime) -> Result<(), Fail> {
     let abc = parts_of(b"abc");
     for (mark, look) in [
-        (abc.suffix - 1, Look::Moved(63)),
+        (abc.suffix.saturating_sub(1), Look::Moved(63)),
         (abc.suffix, Look::Moved(63)),
-        (abc.suffix + 1, Look::Absent),
+        (abc.suffix.saturating_add(1), Look::Absent),
     ] {
         let mut page = Page::new(rt.alloc())?;
         BucketBuilder::start(&mut page).finish(Some(Sends { target: 63, mark }));
