@@ -30,11 +30,11 @@ used-written old used item within =
     ∙ ap (λ bytes. bytes ++ rest) (drop-append-le 16 front (spelling item) long ∙ ap (λ bytes. bytes ++ spelling item) inner))
     ∙ take_at (used_bytes old used ++ spelling item) rest (used + length (spelling item)) whole
 
-spellings-more : (items : List Item) (item : Item) → spellings (items ++ item ∷ []) ≡ spellings items ++ spelling item
+pub spellings-more : (items : List Item) (item : Item) → spellings (items ++ item ∷ []) ≡ spellings items ++ spelling item
 spellings-more items item = flat_map-append spelling items (item ∷ []) ∙ ap (λ bytes. spellings items ++ bytes) (append-nil (spelling item))
 
 -- the items, with one more
-items-more : (count : ℕ) (bytes : List ℕ) (items : List Item) (item : Item) → bytes ≡ spellings items → length items ≡ count → list_all is_valid items ≡ true → is_valid item ≡ true
+pub items-more : (count : ℕ) (bytes : List ℕ) (items : List Item) (item : Item) → bytes ≡ spellings items → length items ≡ count → list_all is_valid items ≡ true → is_valid item ≡ true
     → items_of (count + 1) (bytes ++ spelling item) ≡ Some (items ++ item ∷ [])
 items-more count bytes items item whole count_is valid more =
     let count_more : length (items ++ item ∷ []) ≡ count + 1 = length-append items (item ∷ []) ∙ ap (λ n. n + 1) count_is in

@@ -1,5 +1,5 @@
-mod ItemsOf
+pub mod ItemsOf
 mod Lookups
-mod BucketPages
-mod Growing
+pub mod BucketPages
+pub mod Growing
 mod Finished
