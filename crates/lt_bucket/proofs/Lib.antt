@@ -1,0 +1,5 @@
+pub mod ItemsOf
+mod Lookups
+pub mod BucketPages
+pub mod Growing
+mod Finished

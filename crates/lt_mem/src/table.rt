@@ -1,0 +1,163 @@
+//! Items in one buffer, found by a hash of their keys.
+
+ghost use Rattle.std.specs.Prelude.{◌≡◌, ◌+◌, ◌<◌, ◌≤◌, ◌∷◌, [], ◌++◌, IfOk, IsTrue, vec_len, vec_capacity};
+ghost use Rattle.std.specs.Option.{option_map};
+ghost use Rattle.lt_terms.specs.Items.{is_key, is_valid, item_cost, spelling, total_cost};
+ghost use Rattle.lt_terms.specs.declared.Kind.TheVariants.{Put, Delete};
+ghost use Rattle.lt_item.specs.Views.{item_of};
+ghost use Rattle.lt_tables.specs.Merge.{newest_of};
+ghost use Rattle.lt_mem.specs.Index.{bucket_of};
+
+use lt_item::{ItemView, Kind, item_header, parts_of, read_item};
+use lt_page::NoMemory;
+use std::alloc::Global;
+use std::marker::Model;
+
+// Room for this many bytes of items.
+const BYTES: usize = 204092;
+
+// No more items of least cost fit in that room.
+const ITEMS: usize = 40818;
+
+const BUCKETS: usize = 65536;
+
+/// Items in the order in which they were put in. All memory is taken by `new`.
+///
+/// An item is found by 16 bits of its key's hash. Items with the same 16 bits are linked, the
+/// newest first, and a look-up follows the links. The hash is no secret: keys can be chosen so
+/// that all of them are linked, and a look-up then reads all items, 40,818 at most. Putting an
+/// item in follows no link.
+#[derive(Drop)]
+pub struct MemTable {
+    // The spellings of the items, one behind the other.
+    bytes: Vec<u8>,
+    places: Vec<Place>,
+    // For each value of the 16 bits the number of its newest item, from 1 on; 0 where there is none.
+    heads: Vec<u32>,
+}
+
+/// Where an item begins, and the number of the item that is linked before it.
+#[derive(Clone, Copy)]
+struct Place {
+    at: u32,
+    before: u32,
+}
+
+impl Model for MemTable {
+    ghost use Rattle.std.specs.Prelude.{List};
+    ghost use Rattle.lt_terms.specs.Items.{Item};
+
+    ghost Value = { List Item };
+
+    ghost use Rattle.lt_mem.specs.Inside.{items_inside, IsIndexed};
+
+    ghost view = { items_inside };
+
+    ghost invariant = { IsIndexed };
+}
+
+impl MemTable {
+    /// A table with no items, and with all the room that it will use.
+    pub fn new(alloc: Global) -> Result<MemTable, NoMemory>
+        ensures { IfOk result (λ table. table ≡ []) }
+    {
+        Ok(MemTable {
+            bytes: Vec::with_capacity(alloc, BYTES)?,
+            places: Vec::with_capacity(alloc, ITEMS)?,
+            heads: vec![in alloc; 0; BUCKETS]?,
+        })
+    }
+
+    /// Puts a value in under a key.
+    pub fn put(&mut self, key: &[u8], value: &[u8])
+        requires valid { IsTrue (is_valid (record { kind = Put; key = key.now; value = value.now })) }
+        requires room { total_cost self.old + item_cost (record { kind = Put; key = key.now; value = value.now }) ≤ 204092 }
+        ensures { self.new ≡ self.old ++ (record { kind = Put; key = key.now; value = value.now }) ∷ [] }
+    {
+        self.add(&ItemView {
+            kind: Kind::Put,
+            key,
+            value,
+        });
+    }
+
+    /// Puts the delete of a key in.
+    pub fn delete(&mut self, key: &[u8])
+        requires valid { IsTrue (is_key key.now) }
+        requires room { total_cost self.old + item_cost (record { kind = Delete; key = key.now; value = [] }) ≤ 204092 }
+        ensures { self.new ≡ self.old ++ (record { kind = Delete; key = key.now; value = [] }) ∷ [] }
+    {
+        self.add(&ItemView {
+            kind: Kind::Delete,
+            key,
+            value: &[],
+        });
+    }
+
+    fn add(&mut self, item: &ItemView<'_>)
+        requires valid { IsTrue (is_valid (item_of item.now)) }
+        requires room { total_cost self.old + item_cost (item_of item.now) ≤ 204092 }
+        ensures { self.new ≡ self.old ++ item_of item.now ∷ [] }
+    {
+        let bucket = bucket_of(item.key);
+        let place = Place {
+            at: self.bytes.len() as u32,
+            before: self.heads[bucket],
+        };
+        append_item(&mut self.bytes, item);
+        self.places.push_reserved(place);
+        self.heads[bucket] = self.places.len() as u32;
+    }
+
+    /// The newest item of a key, which may be a delete. `None` exactly where no item has that key.
+    pub fn get(&self, key: &[u8]) -> Option<ItemView<'_>>
+        ensures { option_map item_of result ≡ newest_of key.now self.now }
+    {
+        let mut number = self.heads[bucket_of(key)];
+        while number > 0 {
+            let place = self.places[number as usize - 1];
+            let (item, _) = read_item(&self.bytes, place.at as usize)?;
+            if item.key == key {
+                return Some(item);
+            }
+            number = place.before;
+        }
+        None
+    }
+
+    /// What all items cost that were put in since the start or the last clear.
+    pub fn bytes(&self) -> u32
+        ensures { result ≡ total_cost self.now }
+    {
+        self.bytes.len() as u32
+    }
+
+    /// Takes all items out.
+    pub fn clear(&mut self)
+        ensures { self.new ≡ [] }
+    {
+        self.bytes.clear();
+        self.places.clear();
+        self.heads.fill(0);
+    }
+}
+
+fn bucket_of(key: &[u8]) -> usize
+    ensures bucket { result ≡ bucket_of key.now }
+    ensures below { result < 65536 }
+{
+    (parts_of(key).suffix % 65536) as usize
+}
+
+fn append_item(bytes: &mut Vec<u8>, item: &ItemView<'_>)
+    requires valid { IsTrue (is_valid (item_of item.now)) }
+    requires room { vec_len bytes.old + item_cost (item_of item.now) ≤ vec_capacity bytes.old }
+    ensures items { bytes.new.items ≡ bytes.old.items ++ spelling (item_of item.now) }
+    ensures len { vec_len bytes.new ≡ vec_len bytes.old + item_cost (item_of item.now) }
+    ensures capacity { vec_capacity bytes.old ≤ vec_capacity bytes.new }
+{
+    // There is room, so none of these takes memory.
+    bytes.extend_from_slice(&item_header(item)).unwrap();
+    bytes.extend_from_slice(item.key).unwrap();
+    bytes.extend_from_slice(item.value).unwrap();
+}
