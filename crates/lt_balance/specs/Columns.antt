@@ -1,8 +1,9 @@
 -- What the entries of a list make of the 64 columns.
-use Rattle.std.specs.Prelude.{◌≡◌, ℕ, ◌<◌, ◌≤◌, List, length, slice_index_or}
+use Rattle.std.specs.Prelude.{◌≡◌, ℕ, ◌<◌, ◌≤◌, List, length, slice_index, slice_index_or}
 use Rattle.std.specs.List.{All}
 use Rattle.lt_tables.specs.declared.Entry.{Entry}
-use Rattle.lt_tables.specs.Placement.{column_load, column_mark, sent_cost}
+use Rattle.lt_tables.specs.declared.Sending.{Sending}
+use Rattle.lt_tables.specs.Placement.{column_load, column_mark, sent_cost, room}
 use Rattle.lt_balance.specs.declared.columns.Column.{Column}
 
 -- a column without entries
@@ -21,3 +22,8 @@ pub record AreColumns (es : List Entry) (columns : List Column) : Type 0 where
 -- no entry has a greater suffix
 abbrev pub NoneAbove : List Entry → ℕ → Type 0
 NoneAbove es suffix = All (λ (e : Entry). e.suffix ≤ suffix) es
+
+-- these are the rooms of the 64 columns after these sendings
+pub record AreRooms (es : List Entry) (made : List Sending) (rooms : List ℕ) : Type 0 where
+  pub len : length rooms ≡ 64
+  pub each : (c : ℕ) → c < 64 → slice_index rooms c ≡ room es made c
