@@ -3,9 +3,11 @@ use Rattle.std.proofs.Common.{◌≡◌, ℕ, zero, suc, ◌+◌, ◌-◌, ◌*�
 use Rattle.std.specs.Prelude.{◌==◌, nat_le, nat_lt, insert}
 use Rattle.std.specs.List.{filter, sum_by, range_with_len, All, AllByRecursion}
 use Rattle.std.specs.Option.{option_and_then, ForSome}
+use Rattle.std.proofs.lemmas.List.{drop_more, drop_all, length_push, length-set, get_or-set_same, get_or-set_other}
+use Rattle.std.proofs.lemmas.List.Sums.{sum_by_push}
 use Rattle.std.proofs.lemmas.List.Elements.{All-nil, All-cons, All-append, All-take, All-drop, All-same}
 use Rattle.std.proofs.lemmas.Option.{none-some}
-use Rattle.std.proofs.lemmas.Bool.{le-leb, lt-leb, lt-ltb, le-ltb}
+use Rattle.std.proofs.lemmas.Bool.{cases_eq, eq-eqb, ne_eqb, le-leb, lt-leb, lt-ltb, le-ltb}
 use Rattle.lt_tables.specs.declared.Entry.{Entry}
 use Rattle.lt_tables.specs.declared.Sending.{Sending}
 use Rattle.lt_tables.specs.Bucket.{capacity}
@@ -178,3 +180,85 @@ IsBest-whole es made cols rooms found is are have =
     is.is
     ∙ ap (λ cs. best (λ k. get_or rooms k 0) cs) (tests_alike (may_receive cols) (λ c. nat_le (column_load es c) capacity) (λ c. c < 64) (λ c small. ap (λ n. nat_le n capacity) (load_is es cols c are small)) (columns_from 0) (range_small 0 64 (omega arith)))
     ∙ (chosen_alike (λ k. get_or rooms k 0) (room es made) (λ c. c < 64) have.each (receivers es) (filter_small (λ c. nat_le (column_load es c) capacity) (columns_from 0) (range_small 0 64 (omega arith)))).0
+
+-- ---- the sendings
+
+-- after so many senders these sendings are made, and what the others make follows
+pub record IsDealt (cols : List Column) (order : List ℕ) (at : ℕ) (made : List Sending) (rooms : List ℕ) : Type 0 where
+  pub long : length made ≡ at
+  pub wide : length rooms ≡ 64
+  pub rest : (es : List Entry) → AreColumns es cols → sendings es (drop at order) made ≡ sendings es order []
+  pub rooms_are : (es : List Entry) → AreColumns es cols → AreRooms es made rooms
+
+abbrev from_there : List Entry → List ℕ → ℕ → List Sending → ℕ → Option (List Sending)
+from_there es order at made to = cond (nat_le (sent_cost es (get_or order at 0)) (room es made to)) (sendings es (drop (at + 1) order) (made ++ record { from = get_or order at 0; to = to } ∷ [])) None
+
+-- what the next sender finds
+next_sending : (es : List Entry) (order : List ℕ) (at : ℕ) (made : List Sending) (found : Option ℕ) → at < length order → found ≡ best (room es made) (receivers es) → sendings es (drop at order) made ≡ option_and_then (from_there es order at made) found
+unfolding sendings
+next_sending es order at made found below is = ap (λ cs. sendings es cs made) (drop_more order at 0 below) ∙ ap (λ o. option_and_then (from_there es order at made) o) (sym is)
+
+pub no_receiver : (es : List Entry) (cols : List Column) (order : List ℕ) (at : ℕ) (made : List Sending) (rooms : List ℕ) → IsDealt cols order at made rooms → at < length order → AreColumns es cols → None ≡ best (room es made) (receivers es) → sendings es order [] ≡ None
+no_receiver es cols order at made rooms dealt below are is = sym (dealt.rest es are) ∙ next_sending es order at made None below is
+
+abbrev sent_at : List Column → ℕ → ℕ
+sent_at cols c = (get_or cols c no_column).sent
+
+sent_is : (es : List Entry) (cols : List Column) (c : ℕ) → AreColumns es cols → c < 64 → sent_at cols c ≡ sent_cost es c
+sent_is es cols c are small = ap (λ (column : Column). column.sent) (are.each c small)
+
+pub no_room : (es : List Entry) (cols : List Column) (order : List ℕ) (at : ℕ) (made : List Sending) (rooms : List ℕ) (to : ℕ) → IsDealt cols order at made rooms → at < length order → AreColumns es cols → get_or order at 0 < 64 → to < 64 → Some to ≡ best (room es made) (receivers es) → get_or rooms to 0 < sent_at cols (get_or order at 0) → sendings es order [] ≡ None
+no_room es cols order at made rooms to dealt below are from small is full =
+    let sent = sent_is es cols (get_or order at 0) are from in
+    let room_is = (dealt.rooms_are es are).each to small in
+    sym (dealt.rest es are) ∙ next_sending es order at made (Some to) below is
+    ∙ ap (λ b. cond b (sendings es (drop (at + 1) order) (made ++ record { from = get_or order at 0; to = to } ∷ [])) None) (lt-leb (sent_cost es (get_or order at 0)) (room es made to) (omega arith))
+
+room_push : (es : List Entry) (made : List Sending) (s : Sending) (c : ℕ) → room es (made ++ s ∷ []) c ≡ room es made c - cond (s.to == c) (sent_cost es s.from) 0
+unfolding room
+room_push es made s c =
+    let more = sum_by_push (λ (s : Sending). cond (s.to == c) (sent_cost es s.from) 0) made s in
+    omega arith
+
+rooms_more : (es : List Entry) (made : List Sending) (rooms : List ℕ) (s : Sending) → AreRooms es made rooms → s.to < 64 → AreRooms es (made ++ s ∷ []) (set rooms s.to (get_or rooms s.to 0 - sent_cost es s.from))
+rooms_more es made rooms s are small = record {
+  len = length-set rooms s.to (get_or rooms s.to 0 - sent_cost es s.from) ∙ are.len;
+  each = λ c below. ⊎_elim
+      (λ (same : s.to ≡ c).
+        let there : s.to < length rooms = let len = are.len in omega arith in
+        subst (λ k. get_or (set rooms s.to (get_or rooms s.to 0 - sent_cost es s.from)) k 0 ≡ room es (made ++ s ∷ []) k) same
+        (get_or-set_same rooms s.to (get_or rooms s.to 0 - sent_cost es s.from) 0 there
+        ∙ ap (λ n. n - sent_cost es s.from) (are.each s.to small)
+        ∙ sym (room_push es made s s.to ∙ ap (λ b. room es made s.to - cond b (sent_cost es s.from) 0) (eq-eqb s.to s.to refl))))
+      (λ (other : s.to ≡ c → ⊥).
+        get_or-set_other rooms s.to c (get_or rooms s.to 0 - sent_cost es s.from) 0 (λ back. other (sym back))
+        ∙ are.each c below
+        ∙ sym (room_push es made s c ∙ ap (λ b. room es made c - cond b (sent_cost es s.from) 0) (ne_eqb s.to c other) ∙ (let z : room es made c - 0 ≡ room es made c = omega arith in z)))
+      (cases_eq s.to c);
+}
+
+pub IsDealt-start : (cols : List Column) (order : List ℕ) (rooms : List ℕ) → length rooms ≡ 64 → ((es : List Entry) → AreColumns es cols → AreRooms es [] rooms) → IsDealt cols order 0 [] rooms
+IsDealt-start cols order rooms wide are = record { long = refl; wide = wide; rest = λ es is. refl; rooms_are = are }
+
+pub IsDealt-more : (cols : List Column) (order : List ℕ) (at : ℕ) (made new : List Sending) (rooms : List ℕ) (to : ℕ) → IsDealt cols order at made rooms → at < length order → get_or order at 0 < 64 → to < 64
+  → ((es : List Entry) → AreColumns es cols → Some to ≡ best (room es made) (receivers es)) → sent_at cols (get_or order at 0) ≤ get_or rooms to 0 → new ≡ made ++ record { from = get_or order at 0; to = to } ∷ []
+  → IsDealt cols order (at + 1) new (set rooms to (get_or rooms to 0 - sent_at cols (get_or order at 0)))
+IsDealt-more cols order at made new rooms to dealt below from small is fits new_is = record {
+  long = ap length new_is ∙ length_push made (record { from = get_or order at 0; to = to }) ∙ ap (λ n. n + 1) dealt.long;
+  wide = length-set rooms to (get_or rooms to 0 - sent_at cols (get_or order at 0)) ∙ dealt.wide;
+  rest = λ es are.
+      let sent = sent_is es cols (get_or order at 0) are from in
+      let room_is = (dealt.rooms_are es are).each to small in
+      ap (λ xs. sendings es (drop (at + 1) order) xs) new_is
+      ∙ sym (next_sending es order at made (Some to) below (is es are)
+        ∙ ap (λ b. cond b (sendings es (drop (at + 1) order) (made ++ record { from = get_or order at 0; to = to } ∷ [])) None) (le-leb (sent_cost es (get_or order at 0)) (room es made to) (omega arith)))
+      ∙ dealt.rest es are;
+  rooms_are = λ es are.
+      subst (λ xs. AreRooms es xs (set rooms to (get_or rooms to 0 - sent_at cols (get_or order at 0)))) (sym new_is)
+      (subst (λ n. AreRooms es (made ++ record { from = get_or order at 0; to = to } ∷ []) (set rooms to (get_or rooms to 0 - n))) (sym (sent_is es cols (get_or order at 0) are from))
+      (rooms_more es made rooms (record { from = get_or order at 0; to = to }) (dealt.rooms_are es are) small));
+}
+
+pub IsDealt-whole : (es : List Entry) (cols : List Column) (order : List ℕ) (at : ℕ) (made : List Sending) (rooms : List ℕ) → IsDealt cols order at made rooms → length order ≤ at → AreColumns es cols → sendings es order [] ≡ Some made
+unfolding sendings
+IsDealt-whole es cols order at made rooms dealt all are = sym (dealt.rest es are) ∙ ap (λ cs. sendings es cs made) (drop_all at order all)

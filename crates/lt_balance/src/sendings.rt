@@ -45,7 +45,8 @@ fn senders_of(columns: &[Column; COLUMNS]) -> ArrayVec<u8, COLUMNS>
 
 /// The room of each column before anything is sent.
 fn first_rooms(columns: &[Column; COLUMNS]) -> [u64; COLUMNS]
-    ensures { (es : List Entry) → AreColumns es columns.now → AreRooms es [] result }
+    ensures len { length result ≡ 64 }
+    ensures rooms { (es : List Entry) → AreColumns es columns.now → AreRooms es [] result }
 {
     let mut rooms = [0; COLUMNS];
     for (c, column) in columns.iter().enumerate() {

@@ -2,5 +2,5 @@ use Rattle.std.proofs.Common.{length, arith}
 use Rattle.lt_balance.proofs.SendingLaws.{AreRooms-start}
 use Rattle.lt_balance.proofs.sendings.first_rooms.Goals as goal
 
-pub returns : goal.returns
-returns c = λ es are. AreRooms-start es c.args.columns.now c.loop-c.rooms are c.loop-c.invariant.0 (λ k small. c.loop-c.invariant.1 k (omega arith))
+pub returns-clause-rooms : goal.returns-clause-rooms
+returns-clause-rooms c = λ es are. AreRooms-start es c.args.columns.now c.loop-c.rooms are c.loop-c.invariant.0 (λ k small. c.loop-c.invariant.1 k (omega arith))
