@@ -2,7 +2,6 @@
 use Rattle.std.proofs.Common.{◌≡◌, ℕ, zero, suc, ◌+◌, ◌-◌, ◌*◌, ◌^◌, ◌<◌, ◌≤◌, max, refl, sym, ap, subst, ◌∙◌, List, [], ◌∷◌, ◌++◌, map, length, take, set, get_or, replicate, Bool, true, false, cond, arith, inl, inr, ⊎_elim}
 use Rattle.std.specs.Prelude.{◌==◌, nat_le, nat_lt}
 use Rattle.std.specs.List.{filter, sum_by, fold, All, AllByRecursion}
-use Rattle.std.specs.List.Sorted.{IsNonDecreasingBy}
 use Rattle.std.proofs.lemmas.List.{append-nil, map-append, length-set, length-replicate, get_or-replicate, get_or-set_same, get_or-set_other, length-take, get_or-take, get_or_default, take_more}
 use Rattle.std.proofs.lemmas.List.Sums.{sum_by-cons, sum_by-le, sum_by-append, sum_by_push, fold-append}
 use Rattle.std.proofs.lemmas.List.Elements.{filter-append, recursion_from_All, All-take}
@@ -10,6 +9,7 @@ use Rattle.std.proofs.lemmas.Bool.{cases_lt, cases_eq, le-ltb, lt-ltb, le-leb, l
 use Rattle.lt_tables.specs.declared.Entry.{Entry}
 use Rattle.lt_tables.specs.Bucket.{capacity}
 use Rattle.lt_balance.specs.declared.columns.Column.{Column}
+use Rattle.lt_balance.specs.Entries.{AreEntries}
 use Rattle.lt_balance.specs.Columns.{column_of, no_column, AreColumns, NoneAbove}
 use Rattle.lt_tables.specs.Placement.{homed, entries_cost, column_load, cost_below, greatest, column_mark, cost_from, sent_cost}
 
@@ -253,11 +253,11 @@ column_of-fits es e was is none fits =
 
 -- ---- all 64
 
-pub load-small : (es : List Entry) (c : ℕ) → All (λ (e : Entry). e.cost ≤ 4080) es → column_load es c ≤ length es * 4080
+pub load-small : (es : List Entry) (c : ℕ) → All (λ (e : Entry). e.cost ≤ capacity) es → column_load es c ≤ length es * capacity
 unfolding column_load
 load-small es c costs =
     let part = cost-filter-le (λ (e : Entry). e.column == c) es in
-    let whole = sum_by-le (λ (e : Entry). e.cost) 4080 es costs in
+    let whole = sum_by-le (λ (e : Entry). e.cost) capacity es costs in
     omega arith
 
 pub sent-le-load : (es : List Entry) (c : ℕ) → sent_cost es c ≤ column_load es c
@@ -280,25 +280,29 @@ AreColumns-more es e columns column are small is = record {
 }
 
 -- what an entry adds to its column fits 64 bits
-pub sums-fit : (es : List Entry) (i : ℕ) (d : Entry) (columns : List Column) → i < length es → length es < 2 ^ 32 → All (λ (e : Entry). e.column < 64) es → All (λ (e : Entry). e.cost ≤ 4080) es → AreColumns (take i es) columns
-  → ((get_or columns (get_or es i d).column no_column).load + (get_or es i d).cost < 2 ^ 64) × ((get_or columns (get_or es i d).column no_column).sent + (get_or es i d).cost < 2 ^ 64)
-sums-fit es i d columns below few small costs are =
-    let here : get_or columns (get_or es i d).column no_column ≡ column_of (take i es) (get_or es i d).column = are.each (get_or es i d).column (small i d below) in
-    let cost : (get_or es i d).cost ≤ 4080 = costs i d below in
+pub record SumsFit (column : Column) (e : Entry) : Type 0 where
+  pub load : column.load + e.cost < 2 ^ 64
+  pub sent : column.sent + e.cost < 2 ^ 64
+
+pub sums-fit : (es : List Entry) (i : ℕ) (d : Entry) (columns : List Column) → AreEntries es → i < length es → AreColumns (take i es) columns → SumsFit (get_or columns (get_or es i d).column no_column) (get_or es i d)
+sums-fit es i d columns entries below are =
+    let e : Entry = get_or es i d in
+    let cost : e.cost ≤ capacity = entries.costs i d below in
     let front : length (take i es) ≤ i = omega (arith, length-take i es) in
-    let load = load-small (take i es) (get_or es i d).column (All-take (λ (e : Entry). e.cost ≤ 4080) i es costs) in
-    let sent = sent-le-load (take i es) (get_or es i d).column in
-    (rw here (omega arith), rw here (omega arith))
+    let few = entries.few in
+    let load = load-small (take i es) e.column (All-take (λ (e : Entry). e.cost ≤ capacity) i es entries.costs) in
+    let sent = sent-le-load (take i es) e.column in
+    subst (λ (column : Column). SumsFit column e) (sym (are.each e.column (entries.columns i d below))) (record { load = omega arith; sent = omega arith })
 
 -- the columns with the next entry
-pub AreColumns-next : (es : List Entry) (i : ℕ) (d : Entry) (columns : List Column) (column : Column) → i < length es → All (λ (e : Entry). e.column < 64) es → IsNonDecreasingBy (λ (e : Entry). e.suffix) es → AreColumns (take i es) columns
+pub AreColumns-next : (es : List Entry) (i : ℕ) (d : Entry) (columns : List Column) (column : Column) → AreEntries es → i < length es → AreColumns (take i es) columns
   → ((front : List Entry) → get_or columns (get_or es i d).column no_column ≡ column_of front (get_or es i d).column → NoneAbove front (get_or es i d).suffix → column ≡ column_of (front ++ get_or es i d ∷ []) (get_or es i d).column)
   → AreColumns (take (i + 1) es) (set columns (get_or es i d).column column)
-AreColumns-next es i d columns column below small order are made =
+AreColumns-next es i d columns column entries below are made =
     let e : Entry = get_or es i d in
     let none : NoneAbove (take i es) e.suffix = λ k x h.
       let early : k < i = omega (arith, length-take i es) in
-      subst (λ (y : Entry). y.suffix ≤ e.suffix) (sym (get_or-take i es k x early ∙ get_or_default es k x d (omega arith))) (order k i d (omega arith) below)
+      subst (λ (y : Entry). y.suffix ≤ e.suffix) (sym (get_or-take i es k x early ∙ get_or_default es k x d (omega arith))) (entries.order k i d (omega arith) below)
     in
     subst (λ front. AreColumns front (set columns e.column column)) (sym (take_more es i d below))
-    (AreColumns-more (take i es) e columns column are (small i d below) (made (take i es) (are.each e.column (small i d below)) none))
+    (AreColumns-more (take i es) e columns column are (entries.columns i d below) (made (take i es) (are.each e.column (entries.columns i d below)) none))

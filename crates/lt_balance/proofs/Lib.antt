@@ -1,2 +1,4 @@
 pub mod ColumnLaws
+pub mod PlanLaws
 pub mod SendingLaws
+pub mod TableLaws

@@ -1,9 +1,9 @@
 //! The load, the mark and the sent cost of each column, kept as entries come in.
 
-ghost use Rattle.std.specs.Prelude.{◌≡◌, ◌+◌, ◌<◌, ◌≤◌, ◌^◌, List, [], ◌∷◌, ◌++◌, length, All, slice_index_or};
-ghost use Rattle.std.specs.List.Sorted.{IsNonDecreasingBy};
+ghost use Rattle.std.specs.Prelude.{◌≡◌, ◌+◌, ◌<◌, ◌^◌, List, [], ◌∷◌, ◌++◌};
 ghost use Rattle.lt_tables.specs.declared.Entry.{Entry};
-ghost use Rattle.lt_balance.specs.Columns.{AreColumns, NoneAbove, no_column, column_of};
+ghost use Rattle.lt_balance.specs.Columns.{AreColumns, NoneAbove, column_of};
+ghost use Rattle.lt_balance.specs.Entries.{AreEntries};
 
 use lt_tables::Entry;
 
@@ -25,14 +25,15 @@ pub(crate) struct Column {
 }
 
 impl Column {
-    const EMPTY: Column = Column {
+    /// A column without entries.
+    pub(crate) const EMPTY: Column = Column {
         load: 0,
         mark: 0,
         sent: 0,
     };
 
     /// The column with one more entry. No entry before has a greater suffix.
-    fn with(self, entry: &Entry) -> Column
+    pub(crate) fn with(self, entry: &Entry) -> Column
         requires load { self.load + entry.now.cost < 2 ^ 64 }
         requires sent { self.sent + entry.now.cost < 2 ^ 64 }
         ensures { (es : List Entry) → self ≡ column_of es entry.now.column → NoneAbove es entry.now.suffix → result ≡ column_of (es ++ entry.now ∷ []) entry.now.column }
@@ -60,10 +61,7 @@ impl Column {
 
 /// The columns of a list of entries.
 pub(crate) fn columns_of(entries: &[Entry]) -> [Column; COLUMNS]
-    requires columns { All (λ (e : Entry). e.column < 64) entries.now }
-    requires costs { All (λ (e : Entry). e.cost ≤ 4080) entries.now }
-    requires order { IsNonDecreasingBy (λ (e : Entry). e.suffix) entries.now }
-    requires few { length entries.now < 2 ^ 32 }
+    requires { AreEntries entries.now }
     ensures { AreColumns entries.now result }
 {
     let mut columns = [Column::EMPTY; COLUMNS];

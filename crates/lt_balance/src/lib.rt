@@ -2,4 +2,10 @@
 #![tactic(auto)]
 
 mod columns;
+mod plans;
 mod sendings;
+mod tables;
+
+pub use lt_tables::{ColumnPlan, Entry};
+pub use plans::{Placement, place};
+pub use tables::cut;
