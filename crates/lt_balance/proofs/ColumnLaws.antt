@@ -91,9 +91,10 @@ greatest_below s (e ∷ es) all =
 greatest_above : (es : List Entry) → NoneOver (greatest (suffixes es)) es
 greatest_above [] = tt
 greatest_above (e ∷ es) =
-    let is = greatest-cons e.suffix (suffixes es) in
-    ((let h : e.suffix ≤ greatest (suffixes (e ∷ es)) = omega arith in h),
-     weaker (λ x. x.suffix ≤ greatest (suffixes es)) (λ x. x.suffix ≤ greatest (suffixes (e ∷ es))) (λ x h. let k : x.suffix ≤ greatest (suffixes (e ∷ es)) = omega arith in k) es (greatest_above es))
+    let is = greatest-cons e.suffix (suffixes es) in (
+      (let h : e.suffix ≤ greatest (suffixes (e ∷ es)) = omega arith in h),
+      weaker (λ x. x.suffix ≤ greatest (suffixes es)) (λ x. x.suffix ≤ greatest (suffixes (e ∷ es))) (λ x h. let k : x.suffix ≤ greatest (suffixes (e ∷ es)) = omega arith in k) es (greatest_above es),
+    )
 
 -- one entry more or less
 greatest_kept : (b : Bool) (e : Entry) (kept : List Entry) → greatest (suffixes kept) ≤ greatest (suffixes (cond b (e ∷ kept) kept))
@@ -137,16 +138,16 @@ reaches : (p : Entry → Bool) (s : ℕ) (es : List Entry) → NoneOver s es →
 reaches p s [] none passes less = absurd (omega arith)
 reaches p s (e ∷ es) none passes less = ⊎_elim
     (λ (below : e.suffix < s).
-      let whole = sum_by-cons (λ (e : Entry). e.cost) e es in
-      let part : cost_below (e ∷ es) s ≡ e.cost + cost_below es s = ap (λ b. entries_cost (cond b (e ∷ filter (λ (x : Entry). nat_lt x.suffix s) es) (filter (λ (x : Entry). nat_lt x.suffix s) es))) (lt-ltb e.suffix s below) ∙ sum_by-cons (λ (e : Entry). e.cost) e (filter (λ (x : Entry). nat_lt x.suffix s) es) in
-      let rest : s ≤ greatest (suffixes (filter p es)) = reaches p s es none.1 passes (omega arith) in
-      let more = greatest_kept (p e) e (filter p es) in
-      omega arith)
+    let whole = sum_by-cons (λ (e : Entry). e.cost) e es in
+    let part : cost_below (e ∷ es) s ≡ e.cost + cost_below es s = ap (λ b. entries_cost (cond b (e ∷ filter (λ (x : Entry). nat_lt x.suffix s) es) (filter (λ (x : Entry). nat_lt x.suffix s) es))) (lt-ltb e.suffix s below) ∙ sum_by-cons (λ (e : Entry). e.cost) e (filter (λ (x : Entry). nat_lt x.suffix s) es) in
+    let rest : s ≤ greatest (suffixes (filter p es)) = reaches p s es none.1 passes (omega arith) in
+    let more = greatest_kept (p e) e (filter p es) in
+    omega arith)
     (λ (above : s ≤ e.suffix).
-      let low : e.suffix ≤ s = none.0 in
-      let same : e.suffix ≡ s = omega arith in
-      let is = greatest-cons e.suffix (suffixes (filter p es)) in
-      subst (λ b. s ≤ greatest (suffixes (cond b (e ∷ filter p es) (filter p es)))) (sym (passes e same)) (omega arith))
+    let low : e.suffix ≤ s = none.0 in
+    let same : e.suffix ≡ s = omega arith in
+    let is = greatest-cons e.suffix (suffixes (filter p es)) in
+    subst (λ b. s ≤ greatest (suffixes (cond b (e ∷ filter p es) (filter p es)))) (sym (passes e same)) (omega arith))
     (cases_lt e.suffix s)
 
 -- once they do not fit, it stays
@@ -181,11 +182,11 @@ last_cost : (hs : List Entry) (s : ℕ) → NoneOver s hs → entries_cost hs �
 last_cost hs s none fits = ⊎_elim
     (λ (same : s ≡ mark_of hs). ap (λ t. cost_from hs t) same ∙ sym (ap (λ b. cond b (sent_of hs) 0) (eq-eqb s (mark_of hs) same)))
     (λ (other : s ≡ mark_of hs → ⊥).
-      let whole : filter (has_room hs) hs ≡ hs = all_kept (has_room hs) hs (for_all (λ x. has_room hs x ≡ true) (λ x. le-leb (cost_below hs x.suffix) capacity (let part = cost-filter-le (λ (y : Entry). nat_lt y.suffix x.suffix) hs in omega arith)) hs) in
-      let low : mark_of hs ≤ s = mark_below hs s none in
-      let above : NoneOver (mark_of hs) hs = subst (λ xs. NoneOver (greatest (suffixes xs)) hs) (sym whole) (greatest_above hs) in
-      ap entries_cost (none_kept (λ (x : Entry). nat_le s x.suffix) hs (weaker (λ x. x.suffix ≤ mark_of hs) (λ x. nat_le s x.suffix ≡ false) (λ x h. lt-leb s x.suffix (omega arith)) hs above))
-      ∙ sym (ap (λ b. cond b (sent_of hs) 0) (ne_eqb s (mark_of hs) other)))
+    let whole : filter (has_room hs) hs ≡ hs = all_kept (has_room hs) hs (for_all (λ x. has_room hs x ≡ true) (λ x. le-leb (cost_below hs x.suffix) capacity (let part = cost-filter-le (λ (y : Entry). nat_lt y.suffix x.suffix) hs in omega arith)) hs) in
+    let low : mark_of hs ≤ s = mark_below hs s none in
+    let above : NoneOver (mark_of hs) hs = subst (λ xs. NoneOver (greatest (suffixes xs)) hs) (sym whole) (greatest_above hs) in
+    ap entries_cost (none_kept (λ (x : Entry). nat_le s x.suffix) hs (weaker (λ x. x.suffix ≤ mark_of hs) (λ x. nat_le s x.suffix ≡ false) (λ x h. lt-leb s x.suffix (omega arith)) hs above))
+    ∙ sym (ap (λ b. cond b (sent_of hs) 0) (ne_eqb s (mark_of hs) other)))
     (cases_eq s (mark_of hs))
 
 sent_fits : (hs : List Entry) (e : Entry) → NoneOver e.suffix hs → entries_cost hs ≤ capacity → sent_of (hs ++ e ∷ []) ≡ cond (e.suffix == mark_of hs) (sent_of hs) 0 + e.cost
@@ -296,13 +297,13 @@ sums-fit es i d columns entries below are =
 
 -- the columns with the next entry
 pub AreColumns-next : (es : List Entry) (i : ℕ) (d : Entry) (columns : List Column) (column : Column) → AreEntries es → i < length es → AreColumns (take i es) columns
-  → ((front : List Entry) → get_or columns (get_or es i d).column no_column ≡ column_of front (get_or es i d).column → NoneAbove front (get_or es i d).suffix → column ≡ column_of (front ++ get_or es i d ∷ []) (get_or es i d).column)
-  → AreColumns (take (i + 1) es) (set columns (get_or es i d).column column)
+    → ((front : List Entry) → get_or columns (get_or es i d).column no_column ≡ column_of front (get_or es i d).column → NoneAbove front (get_or es i d).suffix → column ≡ column_of (front ++ get_or es i d ∷ []) (get_or es i d).column)
+    → AreColumns (take (i + 1) es) (set columns (get_or es i d).column column)
 AreColumns-next es i d columns column entries below are made =
     let e : Entry = get_or es i d in
     let none : NoneAbove (take i es) e.suffix = λ k x h.
-      let early : k < i = omega (arith, length-take i es) in
-      subst (λ (y : Entry). y.suffix ≤ e.suffix) (sym (get_or-take i es k x early ∙ get_or_default es k x d (omega arith))) (entries.order k i d (omega arith) below)
+    let early : k < i = omega (arith, length-take i es) in
+    subst (λ (y : Entry). y.suffix ≤ e.suffix) (sym (get_or-take i es k x early ∙ get_or_default es k x d (omega arith))) (entries.order k i d (omega arith) below)
     in
     subst (λ front. AreColumns front (set columns e.column column)) (sym (take_more es i d below))
     (AreColumns-more (take i es) e columns column are (entries.columns i d below) (made (take i es) (are.each e.column (entries.columns i d below)) none))

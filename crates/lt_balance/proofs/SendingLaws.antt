@@ -25,9 +25,9 @@ load_is es cols c are small = ap (λ (column : Column). column.load) (are.each c
 
 -- a column stands before the first that has no more load
 put_by_load-at : (es : List Entry) (c : ℕ) (order : List ℕ) (at : ℕ) → at ≤ length order
-  → ((k : ℕ) → k < at → column_load es c < column_load es (get_or order k 0))
-  → (at < length order → column_load es (get_or order at 0) ≤ column_load es c)
-  → insert order at c ≡ put_by_load es c order
+    → ((k : ℕ) → k < at → column_load es c < column_load es (get_or order k 0))
+    → (at < length order → column_load es (get_or order at 0) ≤ column_load es c)
+    → insert order at c ≡ put_by_load es c order
 put_by_load-at es c [] zero within more less = refl
 put_by_load-at es c [] (suc at) within more less = absurd (omega arith)
 put_by_load-at es c (d ∷ ds) zero within more less = sym (ap (λ b. cond b (c ∷ d ∷ ds) (d ∷ put_by_load es c ds)) (le-leb (column_load es d) (column_load es c) (less (omega arith))))
@@ -37,9 +37,9 @@ put_by_load-at es c (d ∷ ds) (suc at) within more less =
 
 -- the same, read off the columns
 pub insert-by_load : (es : List Entry) (cols : List Column) (order : List ℕ) (c at : ℕ) → AreColumns es cols → c < 64 → All (λ d. d < 64) order → at ≤ length order
-  → ((k : ℕ) → k < at → load_at cols c < load_at cols (get_or order k 0))
-  → (at < length order → load_at cols (get_or order at 0) ≤ load_at cols c)
-  → insert order at c ≡ put_by_load es c order
+    → ((k : ℕ) → k < at → load_at cols c < load_at cols (get_or order k 0))
+    → (at < length order → load_at cols (get_or order at 0) ≤ load_at cols c)
+    → insert order at c ≡ put_by_load es c order
 insert-by_load es cols order c at are small all within more less =
     let own = load_is es cols c are small in
     put_by_load-at es c order at within
@@ -67,7 +67,7 @@ pub IsOrder-start : (cols : List Column) → IsOrder cols 64 []
 IsOrder-start cols = record { few = omega arith; small = All-nil (λ d. d < 64); sorted = λ es are. refl }
 
 pub IsOrder-takes : (cols : List Column) (c : ℕ) (order new : List ℕ) (at : ℕ) → IsOrder cols c order → 0 < c → c ≤ 64 → capacity < load_at cols (c - 1) → at ≤ length order → new ≡ insert order at (c - 1) → length new ≡ length order + 1
-  → ((es : List Entry) → AreColumns es cols → insert order at (c - 1) ≡ put_by_load es (c - 1) order) → IsOrder cols (c - 1) new
+    → ((es : List Entry) → AreColumns es cols → insert order at (c - 1) ≡ put_by_load es (c - 1) order) → IsOrder cols (c - 1) new
 IsOrder-takes cols c order new at is some within more place new_is long put =
     let all : All (λ d. d < 64) (insert order at (c - 1)) = All-append (λ d. d < 64) (take at order) ((c - 1) ∷ drop at order) (All-take (λ d. d < 64) at order is.small) (All-cons (λ d. d < 64) (c - 1) (drop at order) (omega arith) (All-drop (λ d. d < 64) at order is.small)) in
     record {
@@ -77,7 +77,7 @@ IsOrder-takes cols c order new at is some within more place new_is long put =
           let load = load_is es cols (c - 1) are (omega arith) in
           new_is ∙ put es are ∙ ap (λ ds. put_by_load es (c - 1) ds) (is.sorted es are)
           ∙ sym (ap (λ cs. by_load es (filter (is_sender es) cs)) (one_more c some within)
-            ∙ ap (λ b. by_load es (cond b ((c - 1) ∷ filter (is_sender es) (columns_from c)) (filter (is_sender es) (columns_from c)))) (lt-ltb capacity (column_load es (c - 1)) (omega arith)));
+          ∙ ap (λ b. by_load es (cond b ((c - 1) ∷ filter (is_sender es) (columns_from c)) (filter (is_sender es) (columns_from c)))) (lt-ltb capacity (column_load es (c - 1)) (omega arith)));
     }
 
 pub IsOrder-keeps : (cols : List Column) (c : ℕ) (order : List ℕ) → IsOrder cols c order → 0 < c → c ≤ 64 → load_at cols (c - 1) ≤ capacity → IsOrder cols (c - 1) order
@@ -88,7 +88,7 @@ IsOrder-keeps cols c order is some within fits = record {
       let load = load_is es cols (c - 1) are (omega arith) in
       is.sorted es are
       ∙ sym (ap (λ cs. by_load es (filter (is_sender es) cs)) (one_more c some within)
-        ∙ ap (λ b. by_load es (cond b ((c - 1) ∷ filter (is_sender es) (columns_from c)) (filter (is_sender es) (columns_from c)))) (le-ltb capacity (column_load es (c - 1)) (omega arith)));
+      ∙ ap (λ b. by_load es (cond b ((c - 1) ∷ filter (is_sender es) (columns_from c)) (filter (is_sender es) (columns_from c)))) (le-ltb capacity (column_load es (c - 1)) (omega arith)));
 }
 
 pub IsOrder-whole : (es : List Entry) (cols : List Column) (order : List ℕ) → IsOrder cols 0 order → AreColumns es cols → order ≡ senders es
@@ -153,14 +153,16 @@ chosen_alike f g P same (c ∷ cs) all =
   where
     some_is : (a b : ℕ) → Some a ≡ Some b → P a → P b
     some_is a b e p = let s : a ≡ b = cc in subst P s p
+
     by_test : (b : Bool) (d e : ℕ) → P d → P e → cond b (Some d) (Some e) ≡ cond b (Some d) (Some e) → (k : ℕ) → cond b (Some d) (Some e) ≡ Some k → P k
     by_test true d e pd pe _ k is = some_is d k is pd
     by_test false d e pd pe _ k is = some_is e k is pe
+
     by_rest : (o : Option ℕ) → ((d : ℕ) → o ≡ Some d → P d) → (better f c o ≡ better g c o) × ((d : ℕ) → better f c o ≡ Some d → P d)
     by_rest None holds = (refl, λ d is. some_is c d is all.0)
     by_rest (Some d) holds =
-      let pd = holds d refl in
-      (ap (λ n. cond (nat_le n (f c)) (Some c) (Some d)) (same d pd) ∙ ap (λ n. cond (nat_le (g d) n) (Some c) (Some d)) (same c all.0), λ k is. by_test (nat_le (f d) (f c)) c d all.0 pd refl k is)
+        let pd = holds d refl in
+        (ap (λ n. cond (nat_le n (f c)) (Some c) (Some d)) (same d pd) ∙ ap (λ n. cond (nat_le (g d) n) (Some c) (Some d)) (same c all.0), λ k is. by_test (nat_le (f d) (f c)) c d all.0 pd refl k is)
 
 tests_alike : (p q : ℕ → Bool) (P : ℕ → Type 0) (same : (c : ℕ) → P c → p c ≡ q c) (cs : List ℕ) → AllByRecursion P cs → filter p cs ≡ filter q cs
 tests_alike p q P same [] all = refl
@@ -225,15 +227,15 @@ rooms_more es made rooms s are small = record {
   len = length-set rooms s.to (get_or rooms s.to 0 - sent_cost es s.from) ∙ are.len;
   each = λ c below. ⊎_elim
       (λ (same : s.to ≡ c).
-        let there : s.to < length rooms = let len = are.len in omega arith in
-        subst (λ k. get_or (set rooms s.to (get_or rooms s.to 0 - sent_cost es s.from)) k 0 ≡ room es (made ++ s ∷ []) k) same
-        (get_or-set_same rooms s.to (get_or rooms s.to 0 - sent_cost es s.from) 0 there
-        ∙ ap (λ n. n - sent_cost es s.from) (are.each s.to small)
-        ∙ sym (room_push es made s s.to ∙ ap (λ b. room es made s.to - cond b (sent_cost es s.from) 0) (eq-eqb s.to s.to refl))))
+      let there : s.to < length rooms = let len = are.len in omega arith in
+      subst (λ k. get_or (set rooms s.to (get_or rooms s.to 0 - sent_cost es s.from)) k 0 ≡ room es (made ++ s ∷ []) k) same
+      (get_or-set_same rooms s.to (get_or rooms s.to 0 - sent_cost es s.from) 0 there
+      ∙ ap (λ n. n - sent_cost es s.from) (are.each s.to small)
+      ∙ sym (room_push es made s s.to ∙ ap (λ b. room es made s.to - cond b (sent_cost es s.from) 0) (eq-eqb s.to s.to refl))))
       (λ (other : s.to ≡ c → ⊥).
-        get_or-set_other rooms s.to c (get_or rooms s.to 0 - sent_cost es s.from) 0 (λ back. other (sym back))
-        ∙ are.each c below
-        ∙ sym (room_push es made s c ∙ ap (λ b. room es made c - cond b (sent_cost es s.from) 0) (ne_eqb s.to c other) ∙ (let z : room es made c - 0 ≡ room es made c = omega arith in z)))
+      get_or-set_other rooms s.to c (get_or rooms s.to 0 - sent_cost es s.from) 0 (λ back. other (sym back))
+      ∙ are.each c below
+      ∙ sym (room_push es made s c ∙ ap (λ b. room es made c - cond b (sent_cost es s.from) 0) (ne_eqb s.to c other) ∙ (let z : room es made c - 0 ≡ room es made c = omega arith in z)))
       (cases_eq s.to c);
 }
 
@@ -241,8 +243,8 @@ pub IsDealt-start : (cols : List Column) (order : List ℕ) (rooms : List ℕ) �
 IsDealt-start cols order rooms wide are = record { long = refl; wide = wide; rest = λ es is. refl; rooms_are = are }
 
 pub IsDealt-more : (cols : List Column) (order : List ℕ) (at : ℕ) (made new : List Sending) (rooms : List ℕ) (to : ℕ) → IsDealt cols order at made rooms → at < length order → get_or order at 0 < 64 → to < 64
-  → ((es : List Entry) → AreColumns es cols → Some to ≡ best (room es made) (receivers es)) → sent_at cols (get_or order at 0) ≤ get_or rooms to 0 → new ≡ made ++ record { from = get_or order at 0; to = to } ∷ []
-  → IsDealt cols order (at + 1) new (set rooms to (get_or rooms to 0 - sent_at cols (get_or order at 0)))
+    → ((es : List Entry) → AreColumns es cols → Some to ≡ best (room es made) (receivers es)) → sent_at cols (get_or order at 0) ≤ get_or rooms to 0 → new ≡ made ++ record { from = get_or order at 0; to = to } ∷ []
+    → IsDealt cols order (at + 1) new (set rooms to (get_or rooms to 0 - sent_at cols (get_or order at 0)))
 IsDealt-more cols order at made new rooms to dealt below from small is fits new_is = record {
   long = ap length new_is ∙ length_push made (record { from = get_or order at 0; to = to }) ∙ ap (λ n. n + 1) dealt.long;
   wide = length-set rooms to (get_or rooms to 0 - sent_at cols (get_or order at 0)) ∙ dealt.wide;
@@ -251,7 +253,7 @@ IsDealt-more cols order at made new rooms to dealt below from small is fits new_
       let room_is = (dealt.rooms_are es are).each to small in
       ap (λ xs. sendings es (drop (at + 1) order) xs) new_is
       ∙ sym (next_sending es order at made (Some to) below (is es are)
-        ∙ ap (λ b. cond b (sendings es (drop (at + 1) order) (made ++ record { from = get_or order at 0; to = to } ∷ [])) None) (le-leb (sent_cost es (get_or order at 0)) (room es made to) (omega arith)))
+      ∙ ap (λ b. cond b (sendings es (drop (at + 1) order) (made ++ record { from = get_or order at 0; to = to } ∷ [])) None) (le-leb (sent_cost es (get_or order at 0)) (room es made to) (omega arith)))
       ∙ dealt.rest es are;
   rooms_are = λ es are.
       subst (λ xs. AreRooms es xs (set rooms to (get_or rooms to 0 - sent_at cols (get_or order at 0)))) (sym new_is)

@@ -2,10 +2,15 @@
 #![tactic(auto)]
 
 mod columns;
+mod entries;
 mod plans;
 mod sendings;
 mod tables;
 
+pub use entries::are_entries;
 pub use lt_tables::{ColumnPlan, Entry};
 pub use plans::{Placement, place};
 pub use tables::cut;
+
+#[cfg(test)]
+mod tests;

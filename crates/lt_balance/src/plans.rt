@@ -8,14 +8,12 @@ ghost use Rattle.lt_tables.specs.Placement.{columns as the_columns, placement, p
 ghost use Rattle.lt_balance.specs.Columns.{AreColumns};
 ghost use Rattle.lt_balance.specs.Entries.{AreEntries};
 
-use std::alloc::Global;
-use std::marker::Model;
-
-use lt_page::NoMemory;
-use lt_tables::{ColumnPlan, Entry, Sending};
-
 use super::columns::{COLUMNS, Column, columns_of};
 use super::sendings::sendings_of;
+use lt_page::NoMemory;
+use lt_tables::{ColumnPlan, Entry, Sending};
+use std::alloc::Global;
+use std::marker::Model;
 
 /// The plans of the 64 columns, in order. The target and the mark of a column that does not send
 /// are 0.
@@ -61,7 +59,11 @@ pub fn place(alloc: Global, entries: &[Entry]) -> Result<Option<Placement>, NoMe
 }
 
 /// The plans of columns that send so.
-fn placed(alloc: Global, columns: &[Column; COLUMNS], made: &[Sending]) -> Result<Placement, NoMemory>
+fn placed(
+    alloc: Global,
+    columns: &[Column; COLUMNS],
+    made: &[Sending],
+) -> Result<Placement, NoMemory>
     ensures { IfOk result (λ plans. (es : List Entry) → AreColumns es columns.now → plans ≡ map (plan_of es made.now) the_columns) }
 {
     let mut plans = Vec::with_capacity(alloc, COLUMNS)?;

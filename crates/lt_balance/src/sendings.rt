@@ -7,10 +7,9 @@ ghost use Rattle.lt_tables.specs.declared.Sending.{Sending};
 ghost use Rattle.lt_tables.specs.Placement.{put_by_load, senders, receivers, better, best, room, sendings};
 ghost use Rattle.lt_balance.specs.Columns.{AreColumns, AreRooms};
 
+use super::columns::{CAPACITY, COLUMNS, Column};
 use arrayvec::ArrayVec;
 use lt_tables::Sending;
-
-use super::columns::{CAPACITY, COLUMNS, Column};
 
 /// Where a column stands among others that are in order of load: before the first that has no more.
 fn place_by_load(columns: &[Column; COLUMNS], order: &[u8], column: u8) -> usize

@@ -4,13 +4,11 @@ ghost use Rattle.std.specs.Prelude.{◌≡◌, ◌<◌, ◌≤◌, IfOk, length}
 ghost use Rattle.lt_tables.specs.Cut.{table_count, cut_counts};
 ghost use Rattle.lt_balance.specs.Entries.{AreEntries};
 
-use std::alloc::Global;
-
-use lt_page::NoMemory;
-use lt_tables::Entry;
-
 use super::columns::{COLUMNS, Column};
 use super::sendings::sendings_of;
+use lt_page::NoMemory;
+use lt_tables::Entry;
+use std::alloc::Global;
 
 /// How many entries each table of a list takes: one more would leave it without a placement.
 ///
