@@ -46,10 +46,10 @@ IsStack-pop taken numbers rest capacity x stack is =
         each = λ n. ⊎_elim
             (λ (same : x ≡ n). subst (λ k. copies k rest ≡ cond (is_free (set taken x true) k) 1 0) same (one.1 ∙ ap (λ b. cond (not b) 1 0) (sym (get_or-set_same taken x true true below))))
             (λ (other : x ≡ n → ⊥).
-              (let z : copies n rest ≡ copies n rest + 0 = omega arith in z)
-              ∙ ap (λ b. copies n rest + cond b 1 0) (sym (ne_eqb x n other))
-              ∙ sym (copies_push n x rest) ∙ ap (copies n) (sym is) ∙ stack.each n
-              ∙ ap (λ b. cond (not b) 1 0) (sym (get_or-set_other taken x n true true (λ back. other (sym back)))))
+            (let z : copies n rest ≡ copies n rest + 0 = omega arith in z)
+            ∙ ap (λ b. copies n rest + cond b 1 0) (sym (ne_eqb x n other))
+            ∙ sym (copies_push n x rest) ∙ ap (copies n) (sym is) ∙ stack.each n
+            ∙ ap (λ b. cond (not b) 1 0) (sym (get_or-set_other taken x n true true (λ back. other (sym back)))))
             (cases_eq x n);
         len =
             let long : length rest + 1 ≡ free_count taken = sym (length_push rest x) ∙ ap length (sym is) ∙ stack.len in
@@ -72,12 +72,12 @@ pub IsStack-push : (taken : List Bool) (numbers more : List ℕ) (capacity capac
 IsStack-push taken numbers more capacity capacity' x stack below is_taken is larger = record {
   each = λ n. ap (copies n) is ∙ copies_push n x numbers ∙ ⊎_elim
       (λ (same : x ≡ n). subst (λ k. copies k numbers + cond (x == k) 1 0 ≡ cond (is_free (set taken x false) k) 1 0) same
-        (let none : copies x numbers ≡ 0 = stack.each x ∙ ap (λ b. cond b 1 0) is_taken in
-        ap (λ b. copies x numbers + cond b 1 0) (eq-eqb x x refl) ∙ ap (λ k. k + 1) none ∙ ap (λ b. cond (not b) 1 0) (sym (get_or-set_same taken x false true below))))
+      (let none : copies x numbers ≡ 0 = stack.each x ∙ ap (λ b. cond b 1 0) is_taken in
+      ap (λ b. copies x numbers + cond b 1 0) (eq-eqb x x refl) ∙ ap (λ k. k + 1) none ∙ ap (λ b. cond (not b) 1 0) (sym (get_or-set_same taken x false true below))))
       (λ (other : x ≡ n → ⊥).
-        ap (λ b. copies n numbers + cond b 1 0) (ne_eqb x n other)
-        ∙ (let z : copies n numbers + 0 ≡ copies n numbers = omega arith in z)
-        ∙ stack.each n ∙ ap (λ b. cond (not b) 1 0) (sym (get_or-set_other taken x n false true (λ back. other (sym back)))))
+      ap (λ b. copies n numbers + cond b 1 0) (ne_eqb x n other)
+      ∙ (let z : copies n numbers + 0 ≡ copies n numbers = omega arith in z)
+      ∙ stack.each n ∙ ap (λ b. cond (not b) 1 0) (sym (get_or-set_other taken x n false true (λ back. other (sym back)))))
       (cases_eq x n);
   len =
       let count : free_count (set taken x false) + 0 ≡ free_count taken + 1 = ap (λ b. free_count (set taken x false) + cond b 1 0) (sym is_taken) ∙ count_set taken x false below in
@@ -128,9 +128,9 @@ pub IsStackFrom-keeps : (taken : List Bool) (c : ℕ) (numbers : List ℕ) → I
 IsStackFrom-keeps taken c numbers stack some within is_taken = record {
   each = λ n. ⊎_elim
       (λ (same : c - 1 ≡ n). subst (λ k. copies k numbers ≡ cond (nat_le (c - 1) k && is_free taken k) 1 0) same
-        (stack.each (c - 1)
-        ∙ ap (λ b. cond (b && is_free taken (c - 1)) 1 0) (lt-leb c (c - 1) (omega arith))
-        ∙ ap (λ b. cond b 1 0) (sym (ap (λ b. b && is_free taken (c - 1)) (le-leb (c - 1) (c - 1) (omega arith)) ∙ is_taken))))
+      (stack.each (c - 1)
+      ∙ ap (λ b. cond (b && is_free taken (c - 1)) 1 0) (lt-leb c (c - 1) (omega arith))
+      ∙ ap (λ b. cond b 1 0) (sym (ap (λ b. b && is_free taken (c - 1)) (le-leb (c - 1) (c - 1) (omega arith)) ∙ is_taken))))
       (λ (other : c - 1 ≡ n → ⊥). stack.each n ∙ ap (λ b. cond (b && is_free taken n) 1 0) (sym (from_below c n some other)))
       (cases_eq (c - 1) n);
   len = stack.len ∙ sym (drop_one taken c some within ∙ ap (λ b. cond b 1 0 + free_count (drop c taken)) is_taken ∙ (let z : 0 + free_count (drop c taken) ≡ free_count (drop c taken) = omega arith in z));
@@ -140,13 +140,13 @@ pub IsStackFrom-takes : (taken : List Bool) (c : ℕ) (numbers more : List ℕ) 
 IsStackFrom-takes taken c numbers more stack some within free is = record {
   each = λ n. ap (copies n) is ∙ copies_push n (c - 1) numbers ∙ ⊎_elim
       (λ (same : c - 1 ≡ n). subst (λ k. copies k numbers + cond (c - 1 == k) 1 0 ≡ cond (nat_le (c - 1) k && is_free taken k) 1 0) same
-        (let none : copies (c - 1) numbers ≡ 0 = stack.each (c - 1) ∙ ap (λ b. cond (b && is_free taken (c - 1)) 1 0) (lt-leb c (c - 1) (omega arith)) in
-        ap (λ b. copies (c - 1) numbers + cond b 1 0) (eq-eqb (c - 1) (c - 1) refl) ∙ ap (λ k. k + 1) none
-        ∙ ap (λ b. cond b 1 0) (sym (ap (λ b. b && is_free taken (c - 1)) (le-leb (c - 1) (c - 1) (omega arith)) ∙ free))))
+      (let none : copies (c - 1) numbers ≡ 0 = stack.each (c - 1) ∙ ap (λ b. cond (b && is_free taken (c - 1)) 1 0) (lt-leb c (c - 1) (omega arith)) in
+      ap (λ b. copies (c - 1) numbers + cond b 1 0) (eq-eqb (c - 1) (c - 1) refl) ∙ ap (λ k. k + 1) none
+      ∙ ap (λ b. cond b 1 0) (sym (ap (λ b. b && is_free taken (c - 1)) (le-leb (c - 1) (c - 1) (omega arith)) ∙ free))))
       (λ (other : c - 1 ≡ n → ⊥).
-        ap (λ b. copies n numbers + cond b 1 0) (ne_eqb (c - 1) n other)
-        ∙ (let z : copies n numbers + 0 ≡ copies n numbers = omega arith in z)
-        ∙ stack.each n ∙ ap (λ b. cond (b && is_free taken n) 1 0) (sym (from_below c n some other)))
+      ap (λ b. copies n numbers + cond b 1 0) (ne_eqb (c - 1) n other)
+      ∙ (let z : copies n numbers + 0 ≡ copies n numbers = omega arith in z)
+      ∙ stack.each n ∙ ap (λ b. cond (b && is_free taken n) 1 0) (sym (from_below c n some other)))
       (cases_eq (c - 1) n);
   len =
       let long = length_push numbers (c - 1) in
@@ -216,21 +216,23 @@ Reserves-more count old was new before after more x r free new_is more_is =
       same_extents = ap length new_is ∙ length-set was x true ∙ r.same_extents;
       others_stay = λ n. ap (λ ts. is_free ts n) new_is ∙ ⊎_elim
           (λ (same : x ≡ n). subst (λ k. is_free (set was x true) k ≡ (is_free old k && not (is_among k (r.numbers ++ x ∷ [])))) same
-            (ap not (get_or-set_same was x true true below)
-            ∙ sym (ap (λ b. is_free old x && not b) (among_push x x r.numbers ∙ ap (λ b. is_among x r.numbers || b) (eq-eqb x x refl) ∙ or_true (is_among x r.numbers)) ∙ and_false (is_free old x))))
+          (ap not (get_or-set_same was x true true below)
+          ∙ sym (ap (λ b. is_free old x && not b) (among_push x x r.numbers ∙ ap (λ b. is_among x r.numbers || b) (eq-eqb x x refl) ∙ or_true (is_among x r.numbers)) ∙ and_false (is_free old x))))
           (λ (other : x ≡ n → ⊥).
-            ap not (get_or-set_other was x n true true (λ back. other (sym back)))
-            ∙ r.others_stay n
-            ∙ ap (λ b. is_free old n && not b) (sym (among_push n x r.numbers ∙ ap (λ b. is_among n r.numbers || b) (ne_eqb x n other) ∙ or_false (is_among n r.numbers))))
+          ap not (get_or-set_other was x n true true (λ back. other (sym back)))
+          ∙ r.others_stay n
+          ∙ ap (λ b. is_free old n && not b) (sym (among_push n x r.numbers ∙ ap (λ b. is_among n r.numbers || b) (ne_eqb x n other) ∙ or_false (is_among n r.numbers))))
           (cases_eq x n);
     }
   where
     or_true : (b : Bool) → (b || true) ≡ true
     or_true true = refl
     or_true false = refl
+
     or_false : (b : Bool) → (b || false) ≡ b
     or_false true = refl
     or_false false = refl
+
     and_false : (b : Bool) → (b && false) ≡ false
     and_false true = refl
     and_false false = refl

@@ -4,10 +4,9 @@ ghost use Rattle.std.specs.Prelude.{◌≡◌, ◌+◌, ◌^◌, ◌<◌, ◌≤
 ghost use Rattle.lt_alloc.specs.Extents.{is_free, free_count, AreTaken, Reserves};
 ghost use Rattle.lt_alloc.specs.Stack.{IsStack};
 
+use lt_page::NoMemory;
 use std::alloc::Global;
 use std::marker::Model;
-
-use lt_page::NoMemory;
 
 /// Fewer extents are free than are needed.
 #[derive(Clone, Copy, Debug, PartialEq, Eq)]
@@ -59,6 +58,7 @@ impl Extents {
         ensures short { IsErr result ↔ (free_count self.old < needed) }
         ensures numbers { IfErr result (λ short. (short.needed ≡ needed) × (short.free ≡ free_count self.old)) }
         ensures err { OnErr result ((self.new ≡ self.old) × (into.new.items ≡ into.old.items)) }
+        ensures extents { length self.new ≡ length self.old }
         ensures room { vec_capacity into.old ≤ vec_capacity into.new }
     {
         let free = self.free();
