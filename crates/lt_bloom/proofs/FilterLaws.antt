@@ -36,29 +36,9 @@ is_set-set old new bit small long is n = ap (λ bytes. is_set bytes n) is ∙ �
     ∙ sym (ap (λ b. cond b true (is_set old n)) (ne_eqb n bit other)))
     (cases_eq n bit)
 
-in_more : (q p : ℕ) (ps : List ℕ) → is_in q (ps ++ p ∷ []) ≡ (is_in q ps || (p == q))
-in_more q p [] = or_false (p == q)
-  where
-    or_false : (b : Bool) → (b || false) ≡ (false || b)
-    or_false true = refl
-    or_false false = refl
-in_more q p (r ∷ ps) = ap (λ b. (r == q) || b) (in_more q p ps) ∙ or_assoc (r == q) (is_in q ps) (p == q)
-  where
-    or_assoc : (a b c : Bool) → (a || (b || c)) ≡ ((a || b) || c)
-    or_assoc true b c = refl
-    or_assoc false b c = refl
-
 and_false : (b : Bool) → (b && false) ≡ false
 and_false true = refl
 and_false false = refl
-
-or_true : (b : Bool) → (b || true) ≡ true
-or_true true = refl
-or_true false = refl
-
-or_false : (b : Bool) → (b || false) ≡ b
-or_false true = refl
-or_false false = refl
 
 -- no positions change nothing
 pub AddsPositions-none : (page : List ℕ) (c : ℕ) → AddsPositions page page c []
@@ -67,27 +47,3 @@ AddsPositions-none page c = record {
   bits = λ n below. sym (ap (λ b. cond b true (is_set page n)) (and_false (n / 512 == c)));
 }
 
--- one position more
-pub AddsPositions-more : (old was new : List ℕ) (c p : ℕ) (ps : List ℕ) → AddsPositions old was c ps → c < 64 → p < 512 → length new ≡ length was → ((n : ℕ) → is_set new n ≡ cond (n == 512 * c + p) true (is_set was n)) → AddsPositions old new c (ps ++ p ∷ [])
-AddsPositions-more old was new c p ps adds column position len set_bit = record {
-  len = len ∙ adds.len;
-  bits = λ n below. set_bit n ∙ ⊎_elim
-      (λ (same : n ≡ 512 * c + p).
-      let filter : n / 512 ≡ c = omega arith in
-      let place : p ≡ n % 512 = omega arith in
-      ap (λ b. cond b true (is_set was n)) (eq-eqb n (512 * c + p) same)
-      ∙ sym (ap (λ b. cond (b && is_in (n % 512) (ps ++ p ∷ [])) true (is_set old n)) (eq-eqb (n / 512) c filter)
-      ∙ ap (λ b. cond b true (is_set old n)) (in_more (n % 512) p ps ∙ ap (λ b. is_in (n % 512) ps || b) (eq-eqb p (n % 512) place) ∙ or_true (is_in (n % 512) ps))))
-      (λ (other : n ≡ 512 * c + p → ⊥).
-      ap (λ b. cond b true (is_set was n)) (ne_eqb n (512 * c + p) other)
-      ∙ adds.bits n below
-      ∙ ⊎_elim
-      (λ (filter : n / 512 ≡ c).
-      let apart : p ≡ n % 512 → ⊥ = λ e. other (omega arith) in
-      ap (λ b. cond (n / 512 == c && b) true (is_set old n)) (sym (in_more (n % 512) p ps ∙ ap (λ b. is_in (n % 512) ps || b) (ne_eqb p (n % 512) apart) ∙ or_false (is_in (n % 512) ps))))
-      (λ (elsewhere : n / 512 ≡ c → ⊥).
-      ap (λ b. cond (b && is_in (n % 512) ps) true (is_set old n)) (ne_eqb (n / 512) c elsewhere)
-      ∙ sym (ap (λ b. cond (b && is_in (n % 512) (ps ++ p ∷ [])) true (is_set old n)) (ne_eqb (n / 512) c elsewhere)))
-      (cases_eq (n / 512) c))
-      (cases_eq n (512 * c + p));
-}

@@ -13,22 +13,18 @@ fn one_key_sets_six_bits(rt: HostRuntime) -> Result<(), Fail> {
     assert!(rt; !filters.covers(14, &parts) && !filters.covers(16, &parts));
     assert!(rt; !filters.covers(15, &parts_of(b"")));
 
-    let set = [
-        (7, 0x02),
-        (10, 0x80),
-        (13, 0x08),
-        (19, 0x04),
-        (26, 0x80),
-        (46, 0x40),
-    ];
-    let mut filter = [0; 64];
-    for (at, byte) in set {
-        filter[at] = byte;
+    for (at, byte) in filters.page().bytes().iter().enumerate() {
+        let expected = match at.wrapping_sub(15 * 64) {
+            7 => 0x02,
+            10 => 0x80,
+            13 => 0x08,
+            19 => 0x04,
+            26 => 0x80,
+            46 => 0x40,
+            _ => 0,
+        };
+        assert_eq!(rt; *byte, expected, "byte {at}");
     }
-    let bytes = filters.page().bytes();
-    assert_eq!(rt; &bytes[15 * 64..16 * 64], filter.as_slice());
-    assert!(rt; bytes[..15 * 64].iter().all(|byte| *byte == 0));
-    assert!(rt; bytes[16 * 64..].iter().all(|byte| *byte == 0));
     Ok(())
 }
 

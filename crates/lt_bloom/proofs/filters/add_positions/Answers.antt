@@ -1,4 +1,4 @@
-use Rattle.lt_bloom.proofs.FilterLaws.{AddsPositions-none, AddsPositions-more}
+use Rattle.lt_bloom.proofs.FilterLaws.{AddsPositions-none}
 use Rattle.lt_bloom.proofs.filters.add_positions.Goals as goal
 
 pub loop-position-init : goal.loop-position-init
