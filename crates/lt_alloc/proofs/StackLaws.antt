@@ -68,92 +68,12 @@ free_count-short taken x below is_taken =
     let len = length-set taken x false in
     omega arith
 
-pub IsStack-push : (taken : List Bool) (numbers more : List ℕ) (capacity capacity' x : ℕ) → IsStack taken numbers capacity → x < length taken → is_free taken x ≡ false → more ≡ numbers ++ x ∷ [] → capacity ≤ capacity' → IsStack (set taken x false) more capacity'
-IsStack-push taken numbers more capacity capacity' x stack below is_taken is larger = record {
-  each = λ n. ap (copies n) is ∙ copies_push n x numbers ∙ ⊎_elim
-      (λ (same : x ≡ n). subst (λ k. copies k numbers + cond (x == k) 1 0 ≡ cond (is_free (set taken x false) k) 1 0) same
-      (let none : copies x numbers ≡ 0 = stack.each x ∙ ap (λ b. cond b 1 0) is_taken in
-      ap (λ b. copies x numbers + cond b 1 0) (eq-eqb x x refl) ∙ ap (λ k. k + 1) none ∙ ap (λ b. cond (not b) 1 0) (sym (get_or-set_same taken x false true below))))
-      (λ (other : x ≡ n → ⊥).
-      ap (λ b. copies n numbers + cond b 1 0) (ne_eqb x n other)
-      ∙ (let z : copies n numbers + 0 ≡ copies n numbers = omega arith in z)
-      ∙ stack.each n ∙ ap (λ b. cond (not b) 1 0) (sym (get_or-set_other taken x n false true (λ back. other (sym back)))))
-      (cases_eq x n);
-  len =
-      let count : free_count (set taken x false) + 0 ≡ free_count taken + 1 = ap (λ b. free_count (set taken x false) + cond b 1 0) (sym is_taken) ∙ count_set taken x false below in
-      let long = length_push numbers x in
-      let was = stack.len in
-      ap length is ∙ (let all : length (numbers ++ x ∷ []) ≡ free_count (set taken x false) = omega arith in all);
-  room = let len = length-set taken x false in let room = stack.room in omega arith;
-  few = let len = length-set taken x false in let few = stack.few in omega arith;
-}
-
 -- ---- the stack at the start
 
 -- the free numbers from c on
 pub record IsStackFrom (taken : List Bool) (c : ℕ) (numbers : List ℕ) : Type 0 where
   pub each : (n : ℕ) → copies n numbers ≡ cond (nat_le c n && is_free taken n) 1 0
   pub len : length numbers ≡ free_count (drop c taken)
-
-past_end : (c n : ℕ) (taken : List Bool) → length taken ≤ c → (nat_le c n && is_free taken n) ≡ false
-past_end c n taken all = ⊎_elim
-    (λ (low : n < c). ap (λ b. b && is_free taken n) (lt-leb c n low))
-    (λ (high : c ≤ n). ap (λ b. nat_le c n && not b) (get_or_past taken n true (omega arith)) ∙ and_false (nat_le c n))
-    (cases_lt n c)
-  where
-    and_false : (b : Bool) → (b && false) ≡ false
-    and_false true = refl
-    and_false false = refl
-
-pub IsStackFrom-start : (taken : List Bool) (c : ℕ) → length taken ≤ c → IsStackFrom taken c []
-IsStackFrom-start taken c all = record {
-  each = λ n. ap (λ b. cond b 1 0) (sym (past_end c n taken all));
-  len = ap free_count (sym (drop_all c taken all));
-}
-
-from_below : (c n : ℕ) → 0 < c → (c - 1 ≡ n → ⊥) → nat_le (c - 1) n ≡ nat_le c n
-from_below c n some other = ⊎_elim
-    (λ (low : n < c). lt-leb (c - 1) n (omega arith) ∙ sym (lt-leb c n low))
-    (λ (high : c ≤ n). le-leb (c - 1) n (omega arith) ∙ sym (le-leb c n high))
-    (cases_lt n c)
-
-drop_one : (taken : List Bool) (c : ℕ) → 0 < c → c ≤ length taken → free_count (drop (c - 1) taken) ≡ cond (is_free taken (c - 1)) 1 0 + free_count (drop c taken)
-drop_one taken c some within =
-    let next : (c - 1) + 1 ≡ c = omega arith in
-    ap free_count (drop_more taken (c - 1) true (omega arith))
-    ∙ sum_by-cons (λ (t : Bool). cond (not t) 1 0) (get_or taken (c - 1) true) (drop ((c - 1) + 1) taken)
-    ∙ ap (λ k. cond (is_free taken (c - 1)) 1 0 + free_count (drop k taken)) next
-
-pub IsStackFrom-keeps : (taken : List Bool) (c : ℕ) (numbers : List ℕ) → IsStackFrom taken c numbers → 0 < c → c ≤ length taken → is_free taken (c - 1) ≡ false → IsStackFrom taken (c - 1) numbers
-IsStackFrom-keeps taken c numbers stack some within is_taken = record {
-  each = λ n. ⊎_elim
-      (λ (same : c - 1 ≡ n). subst (λ k. copies k numbers ≡ cond (nat_le (c - 1) k && is_free taken k) 1 0) same
-      (stack.each (c - 1)
-      ∙ ap (λ b. cond (b && is_free taken (c - 1)) 1 0) (lt-leb c (c - 1) (omega arith))
-      ∙ ap (λ b. cond b 1 0) (sym (ap (λ b. b && is_free taken (c - 1)) (le-leb (c - 1) (c - 1) (omega arith)) ∙ is_taken))))
-      (λ (other : c - 1 ≡ n → ⊥). stack.each n ∙ ap (λ b. cond (b && is_free taken n) 1 0) (sym (from_below c n some other)))
-      (cases_eq (c - 1) n);
-  len = stack.len ∙ sym (drop_one taken c some within ∙ ap (λ b. cond b 1 0 + free_count (drop c taken)) is_taken ∙ (let z : 0 + free_count (drop c taken) ≡ free_count (drop c taken) = omega arith in z));
-}
-
-pub IsStackFrom-takes : (taken : List Bool) (c : ℕ) (numbers more : List ℕ) → IsStackFrom taken c numbers → 0 < c → c ≤ length taken → is_free taken (c - 1) ≡ true → more ≡ numbers ++ (c - 1) ∷ [] → IsStackFrom taken (c - 1) more
-IsStackFrom-takes taken c numbers more stack some within free is = record {
-  each = λ n. ap (copies n) is ∙ copies_push n (c - 1) numbers ∙ ⊎_elim
-      (λ (same : c - 1 ≡ n). subst (λ k. copies k numbers + cond (c - 1 == k) 1 0 ≡ cond (nat_le (c - 1) k && is_free taken k) 1 0) same
-      (let none : copies (c - 1) numbers ≡ 0 = stack.each (c - 1) ∙ ap (λ b. cond (b && is_free taken (c - 1)) 1 0) (lt-leb c (c - 1) (omega arith)) in
-      ap (λ b. copies (c - 1) numbers + cond b 1 0) (eq-eqb (c - 1) (c - 1) refl) ∙ ap (λ k. k + 1) none
-      ∙ ap (λ b. cond b 1 0) (sym (ap (λ b. b && is_free taken (c - 1)) (le-leb (c - 1) (c - 1) (omega arith)) ∙ free))))
-      (λ (other : c - 1 ≡ n → ⊥).
-      ap (λ b. copies n numbers + cond b 1 0) (ne_eqb (c - 1) n other)
-      ∙ (let z : copies n numbers + 0 ≡ copies n numbers = omega arith in z)
-      ∙ stack.each n ∙ ap (λ b. cond (b && is_free taken n) 1 0) (sym (from_below c n some other)))
-      (cases_eq (c - 1) n);
-  len =
-      let long = length_push numbers (c - 1) in
-      let was = stack.len in
-      let one = drop_one taken c some within ∙ ap (λ b. cond b 1 0 + free_count (drop c taken)) free in
-      ap length is ∙ (let all : length (numbers ++ (c - 1) ∷ []) ≡ free_count (drop (c - 1) taken) = omega arith in all);
-}
 
 pub IsStackFrom-whole : (taken : List Bool) (numbers : List ℕ) (capacity : ℕ) → IsStackFrom taken 0 numbers → length taken ≤ capacity → length taken < 2 ^ 32 → IsStack taken numbers capacity
 IsStackFrom-whole taken numbers capacity stack room few = record {

@@ -1,5 +1,5 @@
 use Rattle.std.proofs.Common.{◌≡◌, subst, arith}
-use Rattle.lt_alloc.proofs.StackLaws.{IsStackFrom, IsStackFrom-start, IsStackFrom-keeps, IsStackFrom-takes, IsStackFrom-whole}
+use Rattle.lt_alloc.proofs.StackLaws.{IsStackFrom, IsStackFrom-whole}
 use Rattle.lt_alloc.proofs.extents.free_numbers.Goals as goal
 
 pub returns : goal.returns
