@@ -1,13 +1,12 @@
 -- What a push and a pop make of the free numbers.
-use Rattle.std.proofs.Common.{◌≡◌, ℕ, zero, suc, ◌+◌, ◌-◌, ◌<◌, ◌≤◌, ◌^◌, refl, sym, ap, subst, ◌∙◌, List, [], ◌∷◌, ◌++◌, length, take, drop, set, get_or, Bool, true, false, not, cond, arith, inl, inr, ⊎_elim}
-use Rattle.std.specs.Prelude.{◌==◌, IsTrue, nat_le, count_by, ◌&&◌, ◌||◌, All, AllPairs, ◌≢◌}
-use Rattle.std.specs.List.{sum_by, list_any}
-use Rattle.std.proofs.lemmas.List.{length-set, get_or-set_same, get_or-set_other, get_or_past, get_or_default, drop_more, drop_all, length_push, append_assoc, append-nil}
+use Rattle.std.proofs.Common.{◌≡◌, ℕ, zero, suc, ◌+◌, ◌<◌, ◌≤◌, ◌^◌, refl, sym, ap, subst, ◌∙◌, List, [], ◌∷◌, ◌++◌, length, drop, set, get_or, Bool, true, false, not, cond, arith, ⊎_elim}
+use Rattle.std.specs.Prelude.{◌==◌, IsTrue, nat_le, count_by, ◌&&◌, ◌||◌, ◌≢◌}
+use Rattle.std.proofs.lemmas.List.{length-set, get_or-set_same, get_or-set_other, get_or_past, length_push, append_assoc, append-nil}
 use Rattle.std.proofs.lemmas.List.Elements.{All-nil, All-push}
 use Rattle.std.proofs.lemmas.List.Quantifiers.{all_pairs_push}
-use Rattle.std.proofs.lemmas.List.Sums.{sum_by_push, sum_by-cons, sum_by-set, count_by-le-length}
-use Rattle.std.proofs.lemmas.Bool.{cases_eq, cases_lt, eq-eqb, ne_eqb, eqb-true, le-leb, lt-leb, leb-true, true≢false, false≢true, and_parts, not-true}
-use Rattle.lt_alloc.specs.Extents.{is_free, free_count, is_among, AreTaken, Reserves}
+use Rattle.std.proofs.lemmas.List.Sums.{sum_by_push, sum_by-set, count_by-le-length}
+use Rattle.std.proofs.lemmas.Bool.{cases_eq, cases_lt, eq-eqb, ne_eqb, le-leb, true≢false, and_parts, not-true}
+use Rattle.lt_alloc.specs.Extents.{is_free, free_count, is_among, Reserves}
 use Rattle.lt_alloc.specs.Stack.{IsStack}
 
 abbrev copies : ℕ → List ℕ → ℕ

@@ -1,5 +1,5 @@
 -- Extents are seen as a list that says of each number whether it is taken.
-use Rattle.std.specs.Prelude.{◌≡◌, ◌≢◌, ℕ, ◌<◌, Bool, true, false, not, ◌&&◌, List, ◌++◌, length, All, AllPairs, count_by, IsTrue, slice_index_or}
+use Rattle.std.specs.Prelude.{◌≡◌, ◌≢◌, ℕ, ◌<◌, Bool, true, not, ◌&&◌, List, ◌++◌, length, All, AllPairs, count_by, IsTrue, slice_index_or}
 use Rattle.std.specs.List.{list_any}
 use Rattle.std.specs.Prelude.{◌==◌}
 

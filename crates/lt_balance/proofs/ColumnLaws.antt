@@ -1,11 +1,11 @@
 -- What one more entry makes of its column, where no entry before it has a greater suffix.
-use Rattle.std.proofs.Common.{◌≡◌, ℕ, zero, suc, ◌+◌, ◌-◌, ◌*◌, ◌^◌, ◌<◌, ◌≤◌, max, refl, sym, ap, subst, ◌∙◌, List, [], ◌∷◌, ◌++◌, map, length, take, set, get_or, replicate, Bool, true, false, cond, arith, inl, inr, ⊎_elim}
+use Rattle.std.proofs.Common.{◌≡◌, ℕ, ◌+◌, ◌*◌, ◌^◌, ◌<◌, ◌≤◌, max, refl, sym, ap, subst, ◌∙◌, List, [], ◌∷◌, ◌++◌, map, length, take, set, get_or, replicate, Bool, true, false, cond, arith, ⊎_elim}
 use Rattle.std.specs.Prelude.{◌==◌, nat_le, nat_lt}
-use Rattle.std.specs.List.{filter, sum_by, fold, All, AllByRecursion}
+use Rattle.std.specs.List.{filter, fold, All, AllByRecursion}
 use Rattle.std.proofs.lemmas.List.{append-nil, map-append, length-set, length-replicate, get_or-replicate, get_or-set_same, get_or-set_other, length-take, get_or-take, get_or_default, take_more}
 use Rattle.std.proofs.lemmas.List.Sums.{sum_by-cons, sum_by-le, sum_by-append, sum_by_push, fold-append}
 use Rattle.std.proofs.lemmas.List.Elements.{filter-append, recursion_from_All, All-take}
-use Rattle.std.proofs.lemmas.Bool.{cases_lt, cases_eq, le-ltb, lt-ltb, le-leb, lt-leb, ltb-true, leb-true, leb-false, eqb-true, eq-eqb, ne_eqb}
+use Rattle.std.proofs.lemmas.Bool.{cases_lt, cases_eq, le-ltb, lt-ltb, le-leb, lt-leb, leb-true, eq-eqb, ne_eqb}
 use Rattle.lt_tables.specs.declared.Entry.{Entry}
 use Rattle.lt_tables.specs.Bucket.{capacity}
 use Rattle.lt_balance.specs.declared.columns.Column.{Column}

@@ -1,5 +1,5 @@
 -- The placement that the sendings make.
-use Rattle.std.proofs.Common.{◌≡◌, List, [], map, Option, Some, None, sym, ap, ◌∙◌}
+use Rattle.std.proofs.Common.{◌≡◌, List, [], map, Some, None, sym, ap, ◌∙◌}
 use Rattle.std.specs.Option.{option_map}
 use Rattle.lt_tables.specs.declared.Entry.{Entry}
 use Rattle.lt_tables.specs.declared.ColumnPlan.{ColumnPlan}

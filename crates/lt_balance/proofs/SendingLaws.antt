@@ -1,7 +1,7 @@
 -- The order of the senders, the rooms and the receivers, read off the columns.
-use Rattle.std.proofs.Common.{◌≡◌, ℕ, zero, suc, ◌+◌, ◌-◌, ◌*◌, ◌<◌, ◌≤◌, refl, sym, ap, subst, ◌∙◌, List, [], ◌∷◌, ◌++◌, length, take, drop, get_or, set, Bool, true, false, cond, Option, Some, None, arith, inl, inr, ⊎_elim}
-use Rattle.std.specs.Prelude.{◌==◌, nat_le, nat_lt, insert}
-use Rattle.std.specs.List.{filter, sum_by, range_with_len, All, AllByRecursion}
+use Rattle.std.proofs.Common.{◌≡◌, ℕ, zero, suc, ◌+◌, ◌-◌, ◌<◌, ◌≤◌, refl, sym, ap, subst, ◌∙◌, List, [], ◌∷◌, ◌++◌, length, take, drop, get_or, set, Bool, true, false, cond, Option, Some, None, arith, ⊎_elim}
+use Rattle.std.specs.Prelude.{◌==◌, nat_le, insert}
+use Rattle.std.specs.List.{filter, range_with_len, All, AllByRecursion}
 use Rattle.std.specs.Option.{option_and_then, ForSome}
 use Rattle.std.proofs.lemmas.List.{drop_more, drop_all, length_push, length-set, get_or-set_same, get_or-set_other}
 use Rattle.std.proofs.lemmas.List.Sums.{sum_by_push}
@@ -13,7 +13,7 @@ use Rattle.lt_tables.specs.declared.Sending.{Sending}
 use Rattle.lt_tables.specs.Bucket.{capacity}
 use Rattle.lt_tables.specs.Placement.{columns, column_load, sent_cost, is_sender, put_by_load, by_load, senders, receivers, room, better, best, sendings}
 use Rattle.lt_balance.specs.declared.columns.Column.{Column}
-use Rattle.lt_balance.specs.Columns.{no_column, column_of, AreColumns, AreRooms}
+use Rattle.lt_balance.specs.Columns.{no_column, AreColumns, AreRooms}
 
 -- ---- the order of the senders
 

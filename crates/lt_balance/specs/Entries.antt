@@ -1,5 +1,5 @@
 -- What a placement and a cut ask of their entries.
-use Rattle.std.specs.Prelude.{ℕ, ◌<◌, ◌≤◌, ◌^◌, List, length}
+use Rattle.std.specs.Prelude.{◌<◌, ◌≤◌, ◌^◌, List, length}
 use Rattle.std.specs.List.{All}
 use Rattle.std.specs.List.Sorted.{IsNonDecreasingBy}
 use Rattle.lt_tables.specs.declared.Entry.{Entry}

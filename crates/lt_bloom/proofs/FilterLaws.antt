@@ -1,12 +1,11 @@
 -- What a bit that is set makes of a page, and positions of a filter.
-use Rattle.std.proofs.Common.{◌≡◌, ℕ, zero, suc, ◌+◌, ◌-◌, ◌*◌, ◌/◌, ◌%◌, ◌^◌, ◌<◌, ◌≤◌, refl, sym, ap, subst, ◌∙◌, List, [], ◌∷◌, ◌++◌, length, set, get_or, Bool, true, false, cond, arith, inl, inr, ⊎_elim, w8}
-use Rattle.std.specs.Prelude.{◌==◌, ◌&&◌, ◌||◌, bit_or}
+use Rattle.std.proofs.Common.{◌≡◌, ℕ, ◌-◌, ◌*◌, ◌/◌, ◌%◌, ◌^◌, ◌<◌, refl, sym, ap, subst, ◌∙◌, List, [], length, set, get_or, Bool, true, false, cond, arith, ⊎_elim, w8}
+use Rattle.std.specs.Prelude.{◌==◌, ◌&&◌, bit_or}
 use Rattle.std.specs.Int.{bit_at}
-use Rattle.std.specs.List.{list_any}
 use Rattle.std.proofs.lemmas.List.{get_or-set_same, get_or-set_other}
 use Rattle.std.proofs.lemmas.Nat.Bits.{bit_at_set_same, bit_at_set_other}
 use Rattle.std.proofs.lemmas.Bool.{cases_eq, eq-eqb, ne_eqb}
-use Rattle.lt_tables.specs.Filter.{is_set, is_in, AddsPositions}
+use Rattle.lt_tables.specs.Filter.{is_set, AddsPositions}
 
 -- the byte of a bit that is set
 abbrev with_bit : List ℕ → ℕ → ℕ
@@ -46,4 +45,3 @@ AddsPositions-none page c = record {
   len = refl;
   bits = λ n below. sym (ap (λ b. cond b true (is_set page n)) (and_false (n / 512 == c)));
 }
-

@@ -1,4 +1,4 @@
-use Rattle.std.proofs.Common.{◌+◌, ◌<◌, length, arith, lt-ltb, ltb-true}
+use Rattle.std.proofs.Common.{length, arith, lt-ltb, ltb-true}
 use Rattle.std.proofs.lemmas.List.Sorted.{IsNonDecreasingBy-from_all_adjacent}
 use Rattle.lt_tables.specs.declared.Entry.{Entry}
 use Rattle.lt_balance.proofs.entries.are_entries.Goals as goal

@@ -1,4 +1,4 @@
-use Rattle.std.proofs.Common.{length, arith}
+use Rattle.std.proofs.Common.{arith}
 use Rattle.lt_balance.proofs.SendingLaws.{AreRooms-start}
 use Rattle.lt_balance.proofs.sendings.first_rooms.Goals as goal
 

@@ -1,8 +1,7 @@
-use Rattle.std.proofs.Common.{◌≡◌, ◌<◌, List, ℕ, [], Some, None, get_or, length, refl, sym, ap, subst, ◌∙◌, arith}
+use Rattle.std.proofs.Common.{◌≡◌, ◌<◌, List, ℕ, [], get_or, length, refl, sym, ap, subst, ◌∙◌}
 use Rattle.std.specs.List.{All}
-use Rattle.std.specs.Option.{MatchOption}
 use Rattle.lt_tables.specs.declared.Sending.{Sending}
-use Rattle.lt_tables.specs.Placement.{sendings, senders}
+use Rattle.lt_tables.specs.Placement.{sendings}
 use Rattle.lt_balance.proofs.SendingLaws.{IsDealt, IsDealt-start, IsDealt-more, IsDealt-whole, no_receiver, no_room}
 use Rattle.lt_balance.proofs.sendings.sendings_of.Goals as goal
 

@@ -1,12 +1,8 @@
-use Rattle.std.proofs.Common.{◌≡◌, ◌+◌, List, take, set, get_or, true, false, sym, ◌∙◌, arith}
-use Rattle.std.specs.Option.{is_some}
-use Rattle.lt_tables.specs.declared.Entry.{Entry}
-use Rattle.lt_tables.specs.Placement.{has_placement}
+use Rattle.std.proofs.Common.{◌≡◌, ◌+◌, take, ◌∙◌, arith}
 use Rattle.lt_tables.specs.Cut.{table_count}
 use Rattle.lt_tables.proofs.CutLaws.{table_count-within}
-use Rattle.lt_balance.specs.Columns.{AreColumns}
 use Rattle.lt_balance.proofs.ColumnLaws.{AreColumns-nil, AreColumns-next, sums-fit}
-use Rattle.lt_balance.proofs.TableLaws.{IsFitted, IsFitted-start, IsFitted-more, IsFitted-full, IsFitted-whole, has_placement-is}
+use Rattle.lt_balance.proofs.TableLaws.{IsFitted-start, IsFitted-more, IsFitted-full, IsFitted-whole, has_placement-is}
 use Rattle.lt_balance.proofs.tables.first_count.Goals as goal
 use Rattle.lt_balance.proofs.tables.first_count.Goals.{Then-is_none}
 

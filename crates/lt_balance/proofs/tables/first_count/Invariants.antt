@@ -1,6 +1,3 @@
-use Rattle.std.proofs.Common.{◌≡◌, ◌-◌, length, take}
-use Rattle.lt_tables.specs.Cut.{first_fit, table_count}
-use Rattle.lt_balance.specs.Columns.{AreColumns}
 use Rattle.lt_balance.proofs.TableLaws.{IsFitted}
 use Rattle.lt_balance.proofs.tables.first_count.Given as goal
 

@@ -1,4 +1,4 @@
-use Rattle.std.proofs.Common.{◌≡◌, ◌<◌, ℕ, length, take, not}
+use Rattle.std.proofs.Common.{take}
 use Rattle.lt_alloc.specs.Extents.{AreTaken}
 use Rattle.lt_alloc.proofs.extents.Extents.of.Given as goal
 

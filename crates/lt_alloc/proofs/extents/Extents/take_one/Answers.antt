@@ -1,4 +1,4 @@
-use Rattle.std.proofs.Common.{◌≡◌, ◌++◌, ◌∷◌, [], set, true, ap, subst, sym, ◌∙◌, vec_capacity, arith}
+use Rattle.std.proofs.Common.{◌++◌, set, true, ap, subst, sym, ◌∙◌, vec_capacity, arith}
 use Rattle.std.specs.Option.{option_to_list}
 use Rattle.lt_alloc.specs.Stack.{IsStack}
 use Rattle.lt_alloc.proofs.StackLaws.{Pops, IsStack-pop, is_free-within}
