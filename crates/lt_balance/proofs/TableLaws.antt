@@ -1,15 +1,13 @@
 -- The count of a table, found front by front.
 use Rattle.std.proofs.Common.{◌≡◌, ℕ, suc, ◌+◌, ◌-◌, ◌<◌, ◌≤◌, refl, sym, ap, subst, ◌∙◌, List, [], ◌∷◌, ◌++◌, map, length, take, drop, Bool, true, false, cond, Option, Some, None, arith}
-use Rattle.std.proofs.lemmas.List.{append-nil, append_assoc, length-drop}
-use Rattle.std.proofs.lemmas.List.Elements.{All-drop}
-use Rattle.std.proofs.lemmas.List.Sorted.{IsNonDecreasingBy-drop}
+use Rattle.std.proofs.lemmas.List.{append-nil, append_assoc}
 use Rattle.std.specs.Option.{is_some, option_map, MatchOption}
 use Rattle.lt_tables.specs.declared.Entry.{Entry}
 use Rattle.lt_tables.specs.declared.Sending.{Sending}
-use Rattle.lt_tables.specs.Bucket.{capacity}
 use Rattle.lt_tables.specs.Placement.{columns, plan_of, senders, sendings, placement, has_placement}
 use Rattle.lt_tables.specs.Cut.{first_fit, table_count, cut_counts}
 use Rattle.lt_tables.proofs.CutLaws.{has_placement-single, cut_counts-nil, cut_counts-some}
+use Rattle.lt_balance.proofs.EntryLaws.{AreEntries-drop}
 use Rattle.lt_balance.specs.declared.columns.Column.{Column}
 use Rattle.lt_balance.specs.Entries.{AreEntries}
 use Rattle.lt_balance.specs.Columns.{AreColumns}
@@ -56,15 +54,6 @@ IsFitted-whole es count was fitted within all =
     let none : length es - count ≡ 0 = omega arith in
     let same : length es ≡ count = omega arith in
     same ∙ sym (ap (λ n. first_fit n count es) none) ∙ fitted.rest
-
--- what is left of entries is entries
-pub AreEntries-drop : (n : ℕ) (es : List Entry) → AreEntries es → AreEntries (drop n es)
-AreEntries-drop n es entries = record {
-  columns = All-drop (λ (e : Entry). e.column < 64) n es entries.columns;
-  costs = All-drop (λ (e : Entry). e.cost ≤ capacity) n es entries.costs;
-  order = IsNonDecreasingBy-drop (λ (e : Entry). e.suffix) n es entries.order;
-  few = let few = entries.few in let short = length-drop n es in omega arith;
-}
 
 -- the counts so far, and those of the rest
 pub record IsCut (es : List Entry) (counts : List ℕ) (rest : List Entry) : Type 0 where

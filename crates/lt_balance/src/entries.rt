@@ -1,6 +1,7 @@
 //! What a placement and a cut ask of their entries.
 
-ghost use Rattle.std.specs.Prelude.{◌↔◌, IsTrue};
+ghost use Rattle.std.specs.Prelude.{◌↔◌, ℕ, List, IsTrue, take, drop};
+ghost use Rattle.lt_tables.specs.declared.Entry.{Entry};
 ghost use Rattle.lt_balance.specs.Entries.{AreEntries};
 
 use super::columns::{CAPACITY, COLUMNS};
@@ -20,4 +21,10 @@ pub fn are_entries(entries: &[Entry]) -> bool
         }
     }
     entries.len() < 1 << 32
+}
+
+/// A front of entries, and the rest behind it, may be placed and cut too.
+pub fn parts_are_entries()
+    ensures { (n : ℕ) (es : List Entry) → AreEntries es → AreEntries (take n es) × AreEntries (drop n es) }
+{
 }

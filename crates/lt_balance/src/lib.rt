@@ -7,7 +7,7 @@ mod plans;
 mod sendings;
 mod tables;
 
-pub use entries::are_entries;
+pub use entries::{are_entries, parts_are_entries};
 pub use lt_tables::{ColumnPlan, Entry};
 pub use plans::{Placement, place};
 pub use tables::cut;
