@@ -1,15 +1,14 @@
 -- What always has a placement; and the tables of a cut hold its items in order, each with a placement.
-use Rattle.std.proofs.Common.{◌≡◌, ℕ, zero, suc, ◌+◌, ◌-◌, ◌<◌, ◌≤◌, refl, sym, ap, subst, ◌∙◌, List, [], ◌∷◌, ◌++◌, map, length, take, drop, replicate, Bool, true, false, cond, Option, Some, None, arith}
-use Rattle.std.specs.Prelude.{◌==◌, IsTrue, nat_lt}
-use Rattle.std.specs.List.{flat_map, filter, sum_by, range_with_len, AllByRecursion}
+use Rattle.std.proofs.Common.{◌≡◌, ℕ, zero, suc, ◌+◌, ◌-◌, ◌<◌, ◌≤◌, refl, sym, ap, subst, ◌∙◌, List, [], ◌∷◌, ◌++◌, map, length, take, drop, replicate, Bool, true, false, cond, Some, arith}
+use Rattle.std.specs.Prelude.{◌==◌, IsTrue}
+use Rattle.std.specs.List.{flat_map, filter, range_with_len, AllByRecursion}
 use Rattle.std.specs.Option.{is_some, option_map}
 use Rattle.std.proofs.lemmas.List.{take-map, drop-map, length-map, length-drop, take-append-drop}
 use Rattle.std.proofs.lemmas.Bool.{le-ltb}
-use Rattle.lt_terms.specs.Items.{Item, item_cost, is_valid}
+use Rattle.lt_terms.specs.Items.{Item, is_valid}
 use Rattle.lt_terms.proofs.ItemLaws.{key_short, value_short}
 use Rattle.lt_tables.specs.declared.Entry.{Entry}
 use Rattle.lt_tables.specs.declared.ColumnPlan.{ColumnPlan}
-use Rattle.lt_tables.specs.declared.Sending.{Sending}
 use Rattle.lt_tables.specs.Bucket.{capacity}
 use Rattle.lt_tables.specs.Placement.{entry_of, columns, entries_cost, column_load, is_sender, keeps_all, sendings, placement, has_placement, by_load, plan_of}
 use Rattle.lt_tables.specs.Cut.{first_fit, table_count, counts_within, cut_counts, pieces, cut, IsTable}
@@ -144,11 +143,13 @@ tables_placed zero items valid = tt
 tables_placed (suc n) [] valid = tt
 tables_placed (suc n) (item ∷ items) valid =
     let k : ℕ = table_count (map entry_of (item ∷ items)) in
-    let w = table_count-within (map entry_of (item ∷ items)) (omega arith) in
-    (record {
-      any = some_taken k item items w.0;
-      placed = ap has_placement (sym (take-map entry_of k (item ∷ items))) ∙ table_count-fits (entry_of item) (map entry_of items) (item_fits item valid.0);
-    }, subst (λ es. AllByRecursion IsTable (pieces (counts_within n es) (drop k (item ∷ items)))) (sym (drop-map entry_of k (item ∷ items))) (tables_placed n (drop k (item ∷ items)) (all_left k (item ∷ items) valid)))
+    let w = table_count-within (map entry_of (item ∷ items)) (omega arith) in (
+      record {
+        any = some_taken k item items w.0;
+        placed = ap has_placement (sym (take-map entry_of k (item ∷ items))) ∙ table_count-fits (entry_of item) (map entry_of items) (item_fits item valid.0);
+      },
+      subst (λ es. AllByRecursion IsTable (pieces (counts_within n es) (drop k (item ∷ items)))) (sym (drop-map entry_of k (item ∷ items))) (tables_placed n (drop k (item ∷ items)) (all_left k (item ∷ items) valid)),
+    )
 
 pub cut-tables : (items : List Item) → AllByRecursion (λ (item : Item). IsTrue (is_valid item)) items → AllByRecursion IsTable (cut items)
 cut-tables items valid = tables_placed (length (map entry_of items)) items valid
