@@ -1,0 +1,9 @@
+//! Which extents of a device are free.
+#![tactic(auto)]
+
+mod extents;
+
+pub use extents::{Extents, Short};
+
+#[cfg(test)]
+mod tests;

@@ -1,0 +1,5 @@
+pub mod ColumnLaws
+pub mod EntryLaws
+pub mod PlanLaws
+pub mod SendingLaws
+pub mod TableLaws

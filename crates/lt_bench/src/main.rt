@@ -1,0 +1,52 @@
+//! Times calls beside plain programs of the same rules, as ratios within one run. Without a word it
+//! prints nothing.
+#![tactic(auto)]
+
+mod plain;
+mod sample;
+
+use lt_balance::{are_entries, cut};
+use lt_page::NoMemory;
+use plain::plain_cut;
+use sample::sample_entries;
+use std::rt::Clock;
+use std::time::Instant;
+use std::{env, io};
+
+/// As many items as a memory table holds at most.
+const ENTRIES: u32 = 40_000;
+
+fn main(rt: HostRuntime) -> io::Result<()> {
+    for word in env::args(&rt)? {
+        if word.as_str() == "cut" {
+            time_cut(&rt)?;
+        }
+    }
+    Ok(())
+}
+
+/// Prints how many times as long a test of every front takes as `cut`.
+fn time_cut<R: Clock + Print + AllocGlobal>(rt: &R) -> io::Result<()> {
+    let entries = sample_entries(rt.alloc(), ENTRIES).map_err(no_memory)?;
+    if !are_entries(&entries) {
+        return Ok(());
+    }
+    let start = Instant::now(rt)?;
+    let counts = cut(rt.alloc(), &entries).map_err(no_memory)?;
+    let cut_time = start.elapsed(rt)?;
+
+    let start = Instant::now(rt)?;
+    let plain_counts = plain_cut(rt.alloc(), &entries).map_err(no_memory)?;
+    let plain_time = start.elapsed(rt)?;
+
+    if counts.as_slice() != plain_counts.as_slice() {
+        return println!(rt; "cut: the counts differ");
+    }
+    let ratio = plain_time.as_nanos() / cut_time.as_nanos().max(1);
+    let tables = counts.len();
+    println!(rt; "cut: {tables} tables, a test of every front takes {ratio} times as long")
+}
+
+fn no_memory(_: NoMemory) -> io::Error {
+    io::Error::from(io::ErrorKind::OutOfMemory)
+}

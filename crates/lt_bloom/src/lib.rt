@@ -1,0 +1,10 @@
+//! The filters of a table: which keys may lie in it.
+#![tactic(auto)]
+
+mod bits;
+mod filters;
+
+pub use filters::{FilterPage, covers_at};
+
+#[cfg(test)]
+mod tests;
