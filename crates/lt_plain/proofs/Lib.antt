@@ -1,3 +1,2 @@
-pub mod MapLaws
 pub mod RunLaws
 pub mod SplitLaws

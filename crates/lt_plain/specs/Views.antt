@@ -1,9 +1,10 @@
--- Commands and replies as the definitions have them.
-use Rattle.std.specs.Prelude.{ℕ, List}
+-- Commands, replies and the machine as the definitions have them.
 use Rattle.lt_language.specs.Commands as commands
 use Rattle.lt_language.specs.Replies as replies
+use Rattle.lt_language.specs.Machine.{State}
 use Rattle.lt_plain.specs.declared.command.Command.{Command}
 use Rattle.lt_plain.specs.declared.command.Command.TheVariants.{Put, Delete, Get, Stat, Bad}
+use Rattle.lt_plain.specs.declared.machine.Machine.{Machine}
 use Rattle.lt_plain.specs.declared.reply.Reply.{Reply}
 use Rattle.lt_plain.specs.declared.reply.Reply.TheVariants as code
 
@@ -19,5 +20,8 @@ reply_view code.Taken = replies.ok
 reply_view (code.Value v) = replies.value v.items
 reply_view code.Missing = replies.none
 reply_view code.Limit = replies.limit
-reply_view (code.Stat writes) = replies.stat writes 0 0 0
+reply_view (code.Stat writes reads tables free) = replies.stat writes reads tables free
 reply_view (code.Bad kind) = replies.bad kind
+
+abbrev pub state_of : Machine → State
+state_of machine = record { map = machine.values; writes = machine.writes }

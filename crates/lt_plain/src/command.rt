@@ -9,14 +9,16 @@ use lt_language::Bad;
 use std::alloc::{AllocError, Global};
 
 const LONGEST_LINE: usize = 3260;
+
 const LONGEST_KEY: usize = 255;
+
 const LONGEST_VALUE: usize = 3000;
 
 #[derive(Clone, Copy)]
 pub enum Command<'a> {
-    Put(&'a [u8], &'a [u8]),
-    Delete(&'a [u8]),
-    Get(&'a [u8]),
+    Put { key: &'a [u8], value: &'a [u8] },
+    Delete { key: &'a [u8] },
+    Get { key: &'a [u8] },
     Stat,
     Bad(Bad),
 }
@@ -84,14 +86,14 @@ fn read_put(words: &[u8]) -> Command<'_>
     if value.len() > LONGEST_VALUE {
         return Command::Bad(Bad::Value);
     }
-    Command::Put(key, value)
+    Command::Put { key, value }
 }
 
 fn read_get(key: &[u8]) -> Command<'_>
     ensures { command_view result ≡ get_command key.now }
 {
     if is_key(key) {
-        Command::Get(key)
+        Command::Get { key }
     } else {
         Command::Bad(Bad::Key)
     }
@@ -101,7 +103,7 @@ fn read_delete(key: &[u8]) -> Command<'_>
     ensures { command_view result ≡ delete_command key.now }
 {
     if is_key(key) {
-        Command::Delete(key)
+        Command::Delete { key }
     } else {
         Command::Bad(Bad::Key)
     }

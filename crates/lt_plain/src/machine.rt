@@ -1,37 +1,27 @@
 //! The map machine: a map from keys to values, and the number of writes that it took.
 
-ghost use Rattle.std.specs.Prelude.{◌≡◌, ℕ, List, map, IfOk, OnErr};
+ghost use Rattle.std.specs.Prelude.{◌≡◌, ℕ, map, All, IfOk};
+ghost use Rattle.lt_language.specs.Replies as replies;
 ghost use Rattle.lt_language.specs.Machine.{State, nothing_yet, WriteStep, put_of, delete_of, Step, found};
 ghost use Rattle.lt_terms.specs.Maps.{value_at};
-ghost use Rattle.lt_plain.specs.Views.{command_view, reply_view};
-ghost use Rattle.lt_plain.specs.Answers.{RunsTo};
+ghost use Rattle.lt_plain.specs.Views.{command_view, reply_view, state_of};
+ghost use Rattle.lt_plain.specs.Answers.{RunsTo, ReadsNothing};
 
 use crate::command::Command;
 use crate::reply::Reply;
+use lt_map::ByteMap;
 use std::alloc::{AllocError, Global};
-use std::collections::BTreeMap;
-use std::marker::Model;
 
 #[derive(Drop)]
 struct Machine {
-    values: BTreeMap<Vec<u8>, Vec<u8>>,
+    values: ByteMap,
     writes: u64,
-}
-
-impl Model for Machine {
-    ghost use Rattle.lt_language.specs.Machine.{State};
-    ghost use Rattle.lt_plain.specs.Pairs.{state_code, map_of};
-
-    ghost Value = { State };
-
-    ghost coded = { state_code };
-
-    ghost view = { λ m. record { map = map_of m.values.entries; writes = m.writes } };
 }
 
 /// The replies to the commands, from the empty state on.
 pub fn run(alloc: Global, commands: &[Command<'_>]) -> Result<Vec<Reply>, AllocError>
-    ensures { IfOk result (λ replies. (after : State) × RunsTo (map command_view commands.now) (map reply_view replies.items) after) }
+    ensures run { IfOk result (λ replies. (after : State) × RunsTo (map command_view commands.now) (map reply_view replies.items) after) }
+    ensures unread { IfOk result (λ replies. All ReadsNothing (map reply_view replies.items)) }
 {
     let mut machine = Machine::new(alloc);
     let mut replies = Vec::new(alloc);
@@ -43,28 +33,31 @@ pub fn run(alloc: Global, commands: &[Command<'_>]) -> Result<Vec<Reply>, AllocE
 
 impl Machine {
     fn new(alloc: Global) -> Machine
-        ensures { result ≡ nothing_yet }
+        ensures { state_of result ≡ nothing_yet }
     {
         Machine {
-            values: BTreeMap::new(alloc),
+            values: ByteMap::new(alloc),
             writes: 0,
         }
     }
 
+    /// Acts one command. A store of any number of extents may answer so.
     fn step(&mut self, alloc: Global, command: &Command<'_>) -> Result<Reply, AllocError>
-        ensures { IfOk result (λ reply. (e : ℕ) → Step e self.old (command_view command.now) (reply_view reply) self.new) }
+        ensures step { IfOk result (λ reply. (e : ℕ) → Step e (state_of self.old) (command_view command.now) (reply_view reply) (state_of self.new)) }
+        ensures unread { IfOk result (λ reply. ReadsNothing (reply_view reply)) }
     {
         match command {
-            Command::Put(key, value) => self.put(alloc, key, value),
-            Command::Delete(key) => Ok(self.delete(key)),
-            Command::Get(key) => self.get(alloc, key),
-            Command::Stat => Ok(Reply::Stat(self.writes)),
+            Command::Put { key, value } => self.put(alloc, key, value),
+            Command::Delete { key } => Ok(self.delete(key)),
+            Command::Get { key } => self.get(alloc, key),
+            Command::Stat => Ok(self.stat()),
             Command::Bad(bad) => Ok(Reply::Bad(*bad)),
         }
     }
 
     fn put(&mut self, alloc: Global, key: &[u8], value: &[u8]) -> Result<Reply, AllocError>
-        ensures { IfOk result (λ reply. (e : ℕ) → WriteStep e self.old (put_of key.now value.now) (reply_view reply) self.new) }
+        ensures step { IfOk result (λ reply. (e : ℕ) → WriteStep e (state_of self.old) (put_of key.now value.now) (reply_view reply) (state_of self.new)) }
+        ensures unread { IfOk result (λ reply. ReadsNothing (reply_view reply)) }
     {
         if self.writes == u64::MAX {
             return Ok(Reply::Limit);
@@ -77,7 +70,8 @@ impl Machine {
     }
 
     fn delete(&mut self, key: &[u8]) -> Reply
-        ensures { (e : ℕ) → WriteStep e self.old (delete_of key.now) (reply_view result) self.new }
+        ensures step { (e : ℕ) → WriteStep e (state_of self.old) (delete_of key.now) (reply_view result) (state_of self.new) }
+        ensures unread { ReadsNothing (reply_view result) }
     {
         if self.writes == u64::MAX {
             return Reply::Limit;
@@ -88,11 +82,23 @@ impl Machine {
     }
 
     fn get(&self, alloc: Global, key: &[u8]) -> Result<Reply, AllocError>
-        ensures { IfOk result (λ reply. reply_view reply ≡ found (value_at self.now.map key.now)) }
+        ensures { IfOk result (λ reply. reply_view reply ≡ found (value_at self.now.values key.now)) }
     {
         match self.values.get(key) {
             Some(value) => Ok(Reply::Value(Vec::from_slice(alloc, value)?)),
             None => Ok(Reply::Missing),
+        }
+    }
+
+    /// This program reads no block, and has neither tables nor free extents.
+    fn stat(&self) -> Reply
+        ensures { reply_view result ≡ replies.stat self.now.writes 0 0 0 }
+    {
+        Reply::Stat {
+            writes: self.writes,
+            reads: 0,
+            tables: 0,
+            free: 0,
         }
     }
 }

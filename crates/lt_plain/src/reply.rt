@@ -13,8 +13,12 @@ pub enum Reply {
     Value(Vec<u8>),
     Missing,
     Limit,
-    /// The number of writes. This program reads no block, and has neither tables nor free extents.
-    Stat(u64),
+    Stat {
+        writes: u64,
+        reads: u64,
+        tables: u32,
+        free: u32,
+    },
     Bad(Bad),
 }
 
@@ -41,8 +45,13 @@ fn write(alloc: Global, out: &mut Vec<u8>, reply: &Reply) -> Result<(), AllocErr
         }
         Reply::Missing => out.extend_from_slice(b"NONE"),
         Reply::Limit => out.extend_from_slice(b"LIMIT"),
-        Reply::Stat(writes) => {
-            let text = format!(in alloc; "STAT {writes} 0 0 0")?;
+        Reply::Stat {
+            writes,
+            reads,
+            tables,
+            free,
+        } => {
+            let text = format!(in alloc; "STAT {writes} {reads} {tables} {free}")?;
             out.extend_from_slice(text.as_bytes())
         }
         Reply::Bad(bad) => {
