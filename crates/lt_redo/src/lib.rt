@@ -1,0 +1,4 @@
+//! A log of groups of items, each of them gated, over one log area of two.
+#![tactic(auto)]
+
+mod slot;
