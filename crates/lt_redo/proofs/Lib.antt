@@ -1,2 +1,3 @@
+pub mod ClearLaws
 pub mod CommitLaws
 pub mod LogLaws

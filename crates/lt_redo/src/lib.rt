@@ -1,4 +1,5 @@
 //! A log of groups of items, each of them gated, over one log area of two.
 #![tactic(auto)]
 
+mod clear;
 mod slot;
