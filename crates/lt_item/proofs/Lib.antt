@@ -1,2 +1,2 @@
-mod Splices
+pub mod Splices
 mod Readings

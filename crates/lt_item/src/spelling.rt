@@ -1,10 +1,9 @@
 //! Items as bytes.
 
-ghost use Rattle.std.specs.Prelude.{◌≡◌, ◌+◌, ◌≤◌, [], ◌∷◌, ◌++◌, length, take, drop, Some, IsTrue, IfSome};
+ghost use Rattle.std.specs.Prelude.{◌≡◌, ◌+◌, ◌≤◌, length, drop, Some, IsTrue, IfSome};
 ghost use Rattle.std.specs.Option.{option_map};
-ghost use Rattle.lt_terms.specs.Bytes.{u16};
 ghost use Rattle.lt_terms.specs.Items.{is_valid, item_cost, front_item, cut_item, kind_byte, kind_of_byte};
-ghost use Rattle.lt_item.specs.Views.{item_of, found_in, item_written};
+ghost use Rattle.lt_item.specs.Views.{item_of, found_in, header_of, item_written, put_at};
 
 use crate::view::{ItemView, cost};
 use lt_terms::Kind;
@@ -20,9 +19,18 @@ pub fn write_item(into: &mut [u8], at: usize, item: &ItemView<'_>) -> usize
     ensures read_again { front_item (drop at into.new)
         ≡ Some (item_of item.now, drop (at + item_cost (item_of item.now)) into.old) }
 {
-    let key_at = put_bytes(into, at, &header(item));
+    let key_at = put_bytes(into, at, &item_header(item));
     let value_at = put_bytes(into, key_at, item.key);
     put_bytes(into, value_at, item.value)
+}
+
+/// The four bytes in front of an item's key: the kind and the lengths of key and value.
+pub fn item_header(item: &ItemView<'_>) -> [u8; 4]
+    requires { IsTrue (is_valid (item_of item.now)) }
+    ensures { result ≡ header_of (item_of item.now) }
+{
+    let [high, low] = (item.value.len() as u16).to_be_bytes();
+    [kind_byte(item.kind), item.key.len() as u8, high, low]
 }
 
 /// The item spelled at `at`, and the place after it. `None` exactly where no item is spelled there.
@@ -70,15 +78,6 @@ fn cut(kind: Option<Kind>, key_len: usize, value_len: usize, bytes: &[u8]) -> Op
     if item.is_valid() { Some(item) } else { None }
 }
 
-fn header(item: &ItemView<'_>) -> [u8; 4]
-    requires { IsTrue (is_valid (item_of item.now)) }
-    ensures { result ≡ (kind_byte item.now.kind ∷ length item.now.key.now ∷ [])
-        ++ u16 (length item.now.value.now) }
-{
-    let [high, low] = (item.value.len() as u16).to_be_bytes();
-    [kind_byte(item.kind), item.key.len() as u8, high, low]
-}
-
 fn kind_byte(kind: Kind) -> u8
     ensures { result ≡ kind_byte kind }
 {
@@ -100,7 +99,7 @@ fn kind_of(byte: u8) -> Option<Kind>
 
 fn put_bytes(into: &mut [u8], at: usize, bytes: &[u8]) -> usize
     requires { at + length bytes.now ≤ length into.old }
-    ensures written { into.new ≡ take at into.old ++ bytes.now ++ drop (at + length bytes.now) into.old }
+    ensures written { into.new ≡ put_at into.old at bytes.now }
     ensures after { result ≡ at + length bytes.now }
 {
     let end = at + bytes.len();

@@ -1,10 +1,10 @@
 use Rattle.std.proofs.Common.{◌≤◌, length, arith}
-use Rattle.lt_item.proofs.Splices.{written_in_parts, written-read}
+use Rattle.lt_item.proofs.Splices.{put_in_parts, written-read}
 use Rattle.lt_item.proofs.spelling.write_item.Goals as goal
 
 pub returns-clause-written : goal.returns-clause-written
 returns-clause-written c =
-    written_in_parts _ _ _ _ _ _ _ _ _ (omega arith) c.header.ensures
+    put_in_parts _ _ _ _ _ _ _ _ _ (omega arith) c.item_header.ensures
     c.put_bytes-key_at.ensures.written c.put_bytes-key_at.ensures.after
     c.put_bytes-value_at.ensures.written c.put_bytes-value_at.ensures.after c.put_bytes.ensures.written
 

@@ -1,0 +1,5 @@
+mod ItemsOf
+mod Lookups
+mod BucketPages
+mod Growing
+mod Finished

@@ -1,0 +1,5 @@
+pub mod Owned
+pub mod Reading
+pub mod Looks
+pub mod Building
+pub mod Added
