@@ -1,3 +1,4 @@
 pub mod ClearLaws
 pub mod CommitLaws
+pub mod GroupLaws
 pub mod LogLaws

@@ -2,4 +2,5 @@
 #![tactic(auto)]
 
 mod clear;
+mod group;
 mod slot;
