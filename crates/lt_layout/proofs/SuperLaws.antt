@@ -12,7 +12,7 @@ use Rattle.lt_terms.specs.Bytes.{IsBlock, u16, u16_at, zeros, all_zero, same_byt
 use Rattle.lt_format.specs.declared.geometry.Geometry.{Geometry}
 use Rattle.lt_format.specs.Layout.{is_geometry, superblock, geometry_of}
 
-all_zero-zeros : (n : ℕ) → all_zero (zeros n) ≡ true
+pub all_zero-zeros : (n : ℕ) → all_zero (zeros n) ≡ true
 unfolding zeros
 all_zero-zeros zero = refl
 all_zero-zeros (suc n) = all_zero-zeros n

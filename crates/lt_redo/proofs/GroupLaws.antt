@@ -1,18 +1,21 @@
 -- Items that are gathered on a page.
-use Rattle.std.proofs.Common.{◌≡◌, ℕ, zero, suc, ◌+◌, ◌-◌, ◌<◌, ◌≤◌, refl, sym, ap, subst, ◌∙◌, List, [], ◌∷◌, ◌++◌, length, take, drop, Some, IsTrue, arith, append_assoc}
-use Rattle.std.specs.Prelude.{unwrap_or, slice_range}
+use Rattle.std.proofs.Common.{◌≡◌, ℕ, zero, suc, ◌+◌, ◌-◌, ◌<◌, ◌≤◌, refl, sym, ap, subst, ◌∙◌, List, [], ◌∷◌, ◌++◌, length, take, drop, Bool, true, false, ◌&&◌, ◌^◌, Option, Some, None, IsTrue, nat_le, arith, append_assoc}
+use Rattle.std.specs.Prelude.{unwrap_or, slice_range, if◌then◌else◌}
+use Rattle.std.proofs.lemmas.Bool.{le-leb}
+use Rattle.std.proofs.lemmas.Nat.{from_be_bytes-to_be_bytes_2}
+use Rattle.lt_layout.proofs.SuperLaws.{all_zero-zeros}
 use Rattle.std.specs.List.{AllByRecursion, sum_by, flat_map}
 use Rattle.std.proofs.lemmas.List.{take_at, drop_at, length-append, append-nil, drop-drop, drop-take, drop-append-le, length-take-le}
 use Rattle.std.proofs.lemmas.Grind.{flat_map-append}
 use Rattle.std.proofs.lemmas.List.Sums.{sum_by-cons, sum_by_push}
 use Rattle.std.proofs.Math.Seq.{drop-append-add}
-use Rattle.lt_terms.specs.Bytes.{u16, zeros, block_of}
+use Rattle.lt_terms.specs.Bytes.{u16, u16_at, zeros, block_of, zero_block, all_zero}
 use Rattle.lt_terms.specs.Items.{Item, is_valid, item_cost, items_of, spelling, spellings, total_cost}
 use Rattle.lt_terms.proofs.ItemLaws.{items_of-spellings}
 use Rattle.lt_layout.proofs.FillLaws.{drop-zeros}
 use Rattle.lt_item.specs.Views.{item_written}
 use Rattle.lt_page.specs.Page.{filled}
-use Rattle.lt_format.specs.Log.{group_room, group_page}
+use Rattle.lt_format.specs.Log.{group_room, group_page, group_on}
 use Rattle.lt_redo.specs.Group.{items_on, IsGathered}
 
 length-spelling : (item : Item) → length (spelling item) ≡ item_cost item
@@ -70,3 +73,37 @@ IsGathered-push page count used items item whole g valid room = record {
   room = room;
   valid = valid_push items item g.valid valid;
 }
+
+-- nothing stands on a page of zeros
+pub IsGathered-none : (page : List ℕ) → page ≡ zero_block → IsGathered page 0 0 []
+IsGathered-none page clear = record {
+  tail = ap (drop 4) clear ∙ drop-zeros 4 4096;
+  count_is = refl;
+  used_is = refl;
+  few = omega arith;
+  room = omega arith;
+  valid = tt;
+}
+
+-- what is gathered is what is read
+pub IsGathered-read : (page : List ℕ) (count used : ℕ) (items : List Item) → IsGathered page count used items → IsGathered page count used (items_on page count used)
+IsGathered-read page count used items g = subst (λ is. IsGathered page count used is) (sym (items_on-gathered page count used items g)) g
+
+-- what is read of a content block, once its numbers are read
+abbrev group_with : List ℕ → ℕ → ℕ → Option (List Item)
+group_with block count used = if nat_le 1 count && nat_le used group_room && all_zero (drop (4 + used) block) then items_of count (slice_range block 4 (4 + used)) else None
+
+-- a group's content spells the group
+pub group_on-group_page : (items : List Item) → AllByRecursion (λ item. IsTrue (is_valid item)) items → 1 ≤ length items → length items < 2 ^ 16 → total_cost items ≤ 4092 → group_on (group_page items) ≡ Some items
+unfolding group_on
+group_on-group_page items valid some few room =
+    let block = group_page items in
+    let count : u16_at block 0 ≡ length items = from_be_bytes-to_be_bytes_2 (length items) few in
+    let used : u16_at block 2 ≡ total_cost items = from_be_bytes-to_be_bytes_2 (total_cost items) (omega arith) in
+    let size = length-spellings items in
+    let at_least : nat_le 1 (length items) ≡ true = le-leb _ _ some in
+    let at_most : nat_le (total_cost items) 4092 ≡ true = le-leb _ _ room in
+    let bytes : slice_range block 4 (4 + total_cost items) ≡ spellings items = ap (λ n. take n (drop 4 block)) (omega arith) ∙ take_at (spellings items) (zeros (4096 - suc (suc (suc (suc (length (spellings items))))))) (total_cost items) size in
+    let rest : drop (4 + total_cost items) block ≡ zeros (4096 - suc (suc (suc (suc (length (spellings items)))))) = sym (drop-drop (total_cost items) 4 block) ∙ drop_at (spellings items) (zeros (4096 - suc (suc (suc (suc (length (spellings items))))))) (total_cost items) size in
+    let zero_behind : all_zero (drop (4 + total_cost items) block) ≡ true = ap all_zero rest ∙ all_zero-zeros _ in
+    ap (λ n. group_with block n (u16_at block 2)) count ∙ ap (λ n. group_with block (length items) n) used ∙ rw (at_least, at_most, zero_behind, bytes) (items_of-spellings items valid)

@@ -3,4 +3,8 @@
 
 mod clear;
 mod group;
+mod log;
 mod slot;
+
+pub use log::{GroupFull, Log};
+pub use lt_layout::{Geometry, OpenFault};
