@@ -22,16 +22,18 @@ ClosedSoFar-none g b s = record { gates = λ image shown k below. absurd (omega 
 
 -- one gate more
 pub ClosedSoFar-more : (g : Geometry) (b count n : ℕ) (s t : State) → ClosedSoFar g b count s → Wrote n (log_gate g b count) s t → log_gate g b count < n → t ≡ written s (log_gate g b count) (gate_page false) → ClosedSoFar g b (count + 1) t
-ClosedSoFar-more g b count n s t so_far wrote in_range is = record { gates = λ image shown k below.
-    ⊎_elim
-    (λ (earlier : k < count).
+ClosedSoFar-more g b count n s t so_far wrote in_range is = record {
+  gates = λ image shown k below.
+      ⊎_elim
+      (λ (earlier : k < count).
       let before = written_is (log_gate g b count) s t (gate_page false) is image shown in
       let other : log_gate g b k ≢ log_gate g b count = λ e. omega arith in
       ap is_open (ap (λ (i : Image). block_at i (log_gate g b k)) before.2 ∙ block_at-set_other before.0 (log_gate g b count) (log_gate g b k) (gate_page false) other) ∙ so_far.gates before.0 before.1 k earlier)
-    (λ (last : count ≤ k).
+      (λ (last : count ≤ k).
       let at : k ≡ count = omega arith in
       ap (λ j. is_open (block_at image (log_gate g b j))) at ∙ ap is_open (written_shown n (log_gate g b count) s t (gate_page false) wrote.fit in_range is image shown))
-    (cases_lt k count) }
+      (cases_lt k count);
+}
 
 -- closed gates are no log
 none_open : (g : Geometry) (b : ℕ) (image : Image) → IsCleared g b image → (i n : ℕ) → i + n ≤ g.slots → first_open image (log_gate g b) i n ≡ None

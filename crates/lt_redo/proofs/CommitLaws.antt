@@ -43,7 +43,7 @@ module _ (g : Geometry) (b from : ℕ) (groups : List (List Item)) (group : List
       → Wrote m (log_gate g b (length groups)) u v → Leaves (HasLog g b from groups) s u → Leaves (HasLogOrLonger g b from groups group) s v
   gate_written {n} {m} {s} {t} {u} {v} below wrote is made gate run =
       goes_on gate (not_longer run) (λ image left may same.
-          has_log-gate g b from groups follows.room image left group content follows (content_sure below wrote.fit is (wrote_fit n _ s t wrote) made image may) same (run.now image may))
+      has_log-gate g b from groups follows.room image left group content follows (content_sure below wrote.fit is (wrote_fit n _ s t wrote) made image may) same (run.now image may))
 
   -- after all four calls answered Ok
   pub committed : {n m : ℕ} {s t u v w : State} → log_content g b (length groups) < n → log_gate g b (length groups) < m → Wrote n (log_content g b (length groups)) s t → t ≡ written s (log_content g b (length groups)) content → u ≡ synced t

@@ -19,8 +19,8 @@ pub record OutsideSlot (g : Geometry) (b slot : ℕ) (image left : Image) : Type
 
 pub OutsideSlot-from_same : (g : Geometry) (b slot : ℕ) (image left : Image) → SameOutside (InSlot g b slot) image left → OutsideSlot g b slot image left
 OutsideSlot-from_same g b slot image left same = record {
-  gates = λ k other. same.others (log_gate g b k) (λ in_slot. elim in_slot [ | inl gate ↦ other (omega arith) | inr content ↦ absurd (omega arith) ]);
-  contents = λ k other. same.others (log_content g b k) (λ in_slot. elim in_slot [ | inl gate ↦ absurd (omega arith) | inr content ↦ other (omega arith) ]);
+  gates = λ k other. same.others (log_gate g b k) (λ in_slot. elim in_slot [ inl gate ↦ other (omega arith) | inr content ↦ absurd (omega arith) ]);
+  contents = λ k other. same.others (log_content g b k) (λ in_slot. elim in_slot [ inl gate ↦ absurd (omega arith) | inr content ↦ other (omega arith) ]);
 }
 
 -- gates behind the slot are as before

@@ -5,6 +5,8 @@ mod clear;
 mod group;
 mod log;
 mod slot;
+#[cfg(test)]
+mod tests;
 
 pub use log::{GroupFull, Log};
 pub use lt_layout::{Geometry, OpenFault};
