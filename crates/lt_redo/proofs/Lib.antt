@@ -1,0 +1,5 @@
+pub mod ClearLaws
+pub mod CommitLaws
+pub mod GroupLaws
+pub mod LogLaws
+pub mod NextGroup

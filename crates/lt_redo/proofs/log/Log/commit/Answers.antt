@@ -1,0 +1,64 @@
+use Rattle.std.proofs.Common.{◌≡◌, ℕ, ◌+◌, ◌<◌, ◌≤◌, List, [], ◌∷◌, ◌++◌, ap, sym, ◌∙◌, subst, length, arith}
+use Rattle.lt_terms.specs.Items.{Item}
+use Rattle.lt_device.proofs.Runs.{begins}
+use Rattle.lt_redo.specs.LogState.{LogState, slots_with, groups_with}
+use Rattle.lt_redo.specs.Slots.{HasLog}
+use Rattle.lt_redo.specs.Group.{items_on}
+use Rattle.lt_redo.proofs.GroupLaws.{IsGathered-none, IsGathered-read, items_on-gathered}
+use Rattle.lt_redo.proofs.NextGroup.{some_items, next_group, slots_with-some, groups_with-some, AnyMoment, Committed, HasSlot}
+use Rattle.lt_redo.proofs.log.Log.commit.Goals as goal
+
+pub returns-in_err-write_slot-clause-any_moment : goal.returns-in_err-write_slot-clause-any_moment
+returns-in_err-write_slot-clause-any_moment g c =
+    let i = c.self.inside in
+    let kept = c.self.invariant in
+    let some = some_items _ _ _ _ kept.group c.if-self-eq0.false in
+    let has_slot = subst HasSlot (sym c.self.view_is) c.requires.room in
+    subst (λ (s : LogState). AnyMoment s (g.D.Device.state c.args.device.now) (g.D.Device.state c.write_slot.new.device)) c.self.view_is
+    (λ groups same fits rests. c.write_slot.ensures.any_moment i.writes groups (items_on i.content i.count i.used) same
+    (next_group i.geometry i.writes _ _ _ _ groups _ kept.group c.if-self-eq0.false (c.finish.ensures.content _ kept.group) (let slot = has_slot some in omega (arith, slot, same)) fits) rests)
+
+pub invariant_of-self-2 : goal.invariant_of-self-2
+invariant_of-self-2 g c =
+    let kept = c.self.invariant in
+    let some = some_items _ _ _ _ kept.group c.if-self-eq0.false in
+    let has_slot = subst HasSlot (sym c.self.view_is) c.requires.room in
+    let slot : c.self.inside.slots < c.self.inside.geometry.slots = has_slot some in
+    record {
+      valid = kept.valid;
+      area_is = kept.area_is;
+      within = omega (arith, slot);
+      group = IsGathered-read _ 0 0 [] (IsGathered-none _ c.clear.ensures.zeros);
+      opens = kept.opens;
+      closes = kept.closes;
+    }
+
+pub returns-clause-any_moment : goal.returns-clause-any_moment
+returns-clause-any_moment g c =
+    let i = c.self.inside in
+    let kept = c.self.invariant in
+    let some = some_items _ _ _ _ kept.group c.if-self-eq0.false in
+    let has_slot = subst HasSlot (sym c.self.view_is) c.requires.room in
+    subst (λ (s : LogState). AnyMoment s (g.D.Device.state c.args.device.now) (g.D.Device.state c.write_slot.new.device)) c.self.view_is
+    (λ groups same fits rests. c.write_slot.ensures.any_moment i.writes groups (items_on i.content i.count i.used) same
+    (next_group i.geometry i.writes _ _ _ _ groups _ kept.group c.if-self-eq0.false (c.finish.ensures.content _ kept.group) (let slot = has_slot some in omega (arith, slot, same)) fits) rests)
+
+pub returns-clause-committed : goal.returns-clause-committed
+returns-clause-committed g c =
+    let i = c.self.inside in
+    let kept = c.self.invariant in
+    let some = some_items _ _ _ _ kept.group c.if-self-eq0.false in
+    let has_slot = subst HasSlot (sym c.self.view_is) c.requires.room in
+    subst (λ (s : LogState). Committed s (g.D.Device.state c.args.device.now) (g.D.Device.state c.write_slot.new.device)) c.self.view_is
+    (λ groups same fits rests left may. subst (λ gs. HasLog i.geometry i.area i.writes gs left) (sym (groups_with-some groups (items_on i.content i.count i.used) some))
+    (c.in_ok-write_slot.ensures.committed i.writes groups (items_on i.content i.count i.used) same
+    (next_group i.geometry i.writes _ _ _ _ groups _ kept.group c.if-self-eq0.false (c.finish.ensures.content _ kept.group) (let slot = has_slot some in omega (arith, slot, same)) fits) rests left may))
+
+pub returns-clause-ok : goal.returns-clause-ok
+returns-clause-ok g c =
+    let i = c.self.inside in
+    let kept = c.self.invariant in
+    let some = some_items _ _ _ _ kept.group c.if-self-eq0.false in
+    ap (λ (items : List Item). record { geometry = i.geometry; area = i.area; writes = i.writes; slots = i.slots + 1; pending = items; cleared = i.cleared }) (items_on-gathered _ 0 0 [] (IsGathered-none _ c.clear.ensures.zeros))
+    ∙ ap (λ (n : ℕ). record { geometry = i.geometry; area = i.area; writes = i.writes; slots = n; pending = []; cleared = i.cleared }) (sym (slots_with-some i.slots _ some))
+    ∙ ap (λ (s : LogState). record s { slots = slots_with s.slots s.pending; pending = [] }) c.self.view_is

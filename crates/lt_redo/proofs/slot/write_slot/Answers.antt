@@ -1,0 +1,64 @@
+use Rattle.std.proofs.Common.{◌≡◌, ℕ, ◌+◌, ◌<◌, sym, ap, subst, ◌∙◌, inl, inr, refl, rules, length, arith}
+use Rattle.std.proofs.lemmas.Result.{on_ok_weaker}
+use Rattle.lt_device.proofs.Runs.{confining, syncs, confined_begins, confined_writes}
+use Rattle.lt_device.proofs.Rest.{unsynced_none}
+use Rattle.std.proofs.Common.{List, true}
+use Rattle.lt_device.specs.State.{written}
+use Rattle.lt_format.specs.Layout.{log_gate, log_content, gate_page}
+use Rattle.lt_redo.proofs.CommitLaws.{wrote_at, written_at, content_written, not_longer, gate_written, committed}
+use Rattle.lt_redo.proofs.slot.write_slot.Goals as goal
+
+pub returns-in_err-write-clause-any_moment : goal.returns-in_err-write-clause-any_moment
+returns-in_err-write-clause-any_moment g c = λ from groups group same follows rests.
+    let gate : c.log_gate-gate.result ≡ log_gate c.args.geometry.now c.args.area (length groups) = c.log_gate-gate.ensures ∙ ap (log_gate c.args.geometry.now c.args.area) (sym same) in
+    let wrote = wrote_at (ap (λ k. k + 1) gate) c.write.ensures.wrote in
+    not_longer c.args.geometry.now c.args.area from groups group c.args.content.now follows (content_written c.args.geometry.now c.args.area from groups group c.args.content.now follows wrote rests)
+
+pub returns-in_err-sync-clause-any_moment : goal.returns-in_err-sync-clause-any_moment
+returns-in_err-sync-clause-any_moment g c = λ from groups group same follows rests.
+    let gate : c.log_gate-gate.result ≡ log_gate c.args.geometry.now c.args.area (length groups) = c.log_gate-gate.ensures ∙ ap (log_gate c.args.geometry.now c.args.area) (sym same) in
+    let wrote = wrote_at (ap (λ k. k + 1) gate) c.write.ensures.wrote in
+    not_longer c.args.geometry.now c.args.area from groups group c.args.content.now follows (syncs c.sync.ensures.ended (content_written c.args.geometry.now c.args.area from groups group c.args.content.now follows wrote rests))
+
+pub returns-in_err-write-2-clause-any_moment : goal.returns-in_err-write-2-clause-any_moment
+returns-in_err-write-2-clause-any_moment g c = λ from groups group same follows rests.
+    let gate : c.log_gate-gate.result ≡ log_gate c.args.geometry.now c.args.area (length groups) = c.log_gate-gate.ensures ∙ ap (log_gate c.args.geometry.now c.args.area) (sym same) in
+    let wrote = wrote_at (ap (λ k. k + 1) gate) c.write.ensures.wrote in
+    let is = written_at (g.D.Device.state c.args.device.now) (g.D.Device.state c.write.new.self) c.args.content.now (ap (λ k. k + 1) gate) c.in_ok-write.ensures.ok in
+    let run = syncs c.sync.ensures.ended (content_written c.args.geometry.now c.args.area from groups group c.args.content.now follows wrote rests) in
+    gate_written c.args.geometry.now c.args.area from groups group c.args.content.now follows (rw same c.requires.within) wrote is c.in_ok-sync.ensures.ok (wrote_at gate c.write-2.ensures.wrote) run
+
+pub returns-clause-any_moment : goal.returns-clause-any_moment
+returns-clause-any_moment g c = λ from groups group same follows rests.
+    let gate : c.log_gate-gate.result ≡ log_gate c.args.geometry.now c.args.area (length groups) = c.log_gate-gate.ensures ∙ ap (log_gate c.args.geometry.now c.args.area) (sym same) in
+    let wrote = wrote_at (ap (λ k. k + 1) gate) c.write.ensures.wrote in
+    let is = written_at (g.D.Device.state c.args.device.now) (g.D.Device.state c.write.new.self) c.args.content.now (ap (λ k. k + 1) gate) c.in_ok-write.ensures.ok in
+    let run = syncs c.sync.ensures.ended (content_written c.args.geometry.now c.args.area from groups group c.args.content.now follows wrote rests) in
+    syncs c.sync-2.ensures.ended (gate_written c.args.geometry.now c.args.area from groups group c.args.content.now follows (rw same c.requires.within) wrote is c.in_ok-sync.ensures.ok (wrote_at gate c.write-2.ensures.wrote) run)
+
+pub returns-clause-committed : goal.returns-clause-committed
+returns-clause-committed g c = on_ok_weaker c.sync-2.result (λ sure. λ from groups group same follows rests.
+    let gate : c.log_gate-gate.result ≡ log_gate c.args.geometry.now c.args.area (length groups) = c.log_gate-gate.ensures ∙ ap (log_gate c.args.geometry.now c.args.area) (sym same) in
+    let wrote = wrote_at (ap (λ k. k + 1) gate) c.write.ensures.wrote in
+    let is = written_at (g.D.Device.state c.args.device.now) (g.D.Device.state c.write.new.self) c.args.content.now (ap (λ k. k + 1) gate) c.in_ok-write.ensures.ok in
+    let run = syncs c.sync.ensures.ended (content_written c.args.geometry.now c.args.area from groups group c.args.content.now follows wrote rests) in
+    let opened = subst (λ (page : List ℕ). g.D.Device.state c.write-2.new.self ≡ written (g.D.Device.state c.sync.new.self) c.log_gate-gate.result page) c.requires.opens c.in_ok-write-2.ensures.ok in
+    let gate_is = written_at (g.D.Device.state c.sync.new.self) (g.D.Device.state c.write-2.new.self) (gate_page true) gate opened in
+    let below : log_content c.args.geometry.now c.args.area (length groups) < g.D.Device.blocks c.args.device.now = rw same c.requires.within in
+    let in_range : log_gate c.args.geometry.now c.args.area (length groups) < g.D.Device.blocks c.sync.new.self = omega (arith, below, c.write.ensures.size, c.sync.ensures.size) in
+    committed c.args.geometry.now c.args.area from groups group c.args.content.now follows below in_range wrote is c.in_ok-sync.ensures.ok (wrote_at gate c.write-2.ensures.wrote) gate_is sure run) c.sync-2.ensures.ok
+
+pub returns-clause-sure : goal.returns-clause-sure
+returns-clause-sure g c = on_ok_weaker c.sync-2.result (λ made. unsynced_none _ made) c.sync-2.ensures.ok
+
+pub returns-in_err-write-clause-confined : goal.returns-in_err-write-clause-confined
+returns-in_err-write-clause-confined g c = confined_writes c.write.ensures.wrote (confined_begins _) (inr (ap (λ k. k + 1) c.log_gate-gate.ensures))
+
+pub returns-in_err-sync-clause-confined : goal.returns-in_err-sync-clause-confined
+returns-in_err-sync-clause-confined g c = syncs c.sync.ensures.ended (confined_writes c.write.ensures.wrote (confined_begins _) (inr (ap (λ k. k + 1) c.log_gate-gate.ensures)))
+
+pub returns-in_err-write-2-clause-confined : goal.returns-in_err-write-2-clause-confined
+returns-in_err-write-2-clause-confined g c = confined_writes c.write-2.ensures.wrote (syncs c.sync.ensures.ended (confined_writes c.write.ensures.wrote (confined_begins _) (inr (ap (λ k. k + 1) c.log_gate-gate.ensures)))) (inl c.log_gate-gate.ensures)
+
+pub returns-clause-confined : goal.returns-clause-confined
+returns-clause-confined g c = syncs c.sync-2.ensures.ended (confined_writes c.write-2.ensures.wrote (syncs c.sync.ensures.ended (confined_writes c.write.ensures.wrote (confined_begins _) (inr (ap (λ k. k + 1) c.log_gate-gate.ensures)))) (inl c.log_gate-gate.ensures))

@@ -1,0 +1,33 @@
+-- The slots of a log area on an image, and what one more group makes of its log.
+use Rattle.std.specs.Prelude.{◌≡◌, ◌⊎◌, ℕ, ◌<◌, ◌≤◌, true, false, List, [], ◌∷◌, ◌++◌, length, Ok, Some}
+use Rattle.lt_terms.specs.Bytes.{Image, block_at}
+use Rattle.lt_terms.specs.Items.{Item}
+use Rattle.lt_format.specs.declared.geometry.Geometry.{Geometry}
+use Rattle.lt_format.specs.Layout.{is_open, log_gate, log_content}
+use Rattle.lt_format.specs.Log.{log_groups, log_fits, items_in, group_on}
+
+-- the block is the gate or the content of this slot of log area b
+abbrev pub InSlot : Geometry → ℕ → ℕ → ℕ → Type 0
+InSlot g b slot n = (n ≡ log_gate g b slot) ⊎ (n ≡ log_content g b slot)
+
+-- the image has these groups in log area b, the log having begun at this number of writes
+pub record HasLog (g : Geometry) (b writes : ℕ) (groups : List (List Item)) (image : Image) : Type 0 where
+  pub read : log_groups g image b writes ≡ Ok groups
+
+-- it has these groups, or one more
+pub record HasLogOrLonger (g : Geometry) (b writes : ℕ) (groups : List (List Item)) (group : List Item) (image : Image) : Type 0 where
+  pub either : HasLog g b writes groups image ⊎ HasLog g b writes (groups ++ group ∷ []) image
+
+-- this content spells the group, which may follow these
+pub record MayFollow (g : Geometry) (writes : ℕ) (groups : List (List Item)) (group : List Item) (content : List ℕ) : Type 0 where
+  pub room : length groups < g.slots
+  pub spelled : group_on content ≡ Some group
+  pub fits : log_fits writes (items_in (groups ++ group ∷ [])) ≡ true
+
+-- the block is one of log area b
+abbrev pub InLogArea : Geometry → ℕ → ℕ → Type 0
+InLogArea g b n = (log_gate g b 0 ≤ n) × (n < log_gate g b g.slots)
+
+-- all gates of log area b are closed
+pub record IsCleared (g : Geometry) (b : ℕ) (image : Image) : Type 0 where
+  pub gates : (k : ℕ) → k < g.slots → is_open (block_at image (log_gate g b k)) ≡ false

@@ -1,0 +1,12 @@
+//! A log of groups of items, each of them gated, over one log area of two.
+#![tactic(auto)]
+
+mod clear;
+mod group;
+mod log;
+mod slot;
+#[cfg(test)]
+mod tests;
+
+pub use log::{GroupFull, Log};
+pub use lt_layout::{Geometry, OpenFault};

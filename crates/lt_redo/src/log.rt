@@ -1,0 +1,215 @@
+//! The log in memory: its open group, and its place on the device.
+
+ghost use Rattle.std.specs.Prelude.{◌≡◌, ℕ, ◌+◌, ◌-◌, ◌<◌, ◌≤◌, ◌≢◌, ◌↔◌, [], ◌∷◌, ◌++◌, List, true, false, length, IsTrue, IfOk, IsOk, IsErr, OnOk, OnErr};
+ghost use Rattle.lt_terms.specs.Bytes.{Image};
+ghost use Rattle.lt_terms.specs.Causes.{HasCause};
+ghost use Rattle.lt_terms.specs.Items.{Item, is_valid, item_cost, total_cost};
+ghost use Rattle.lt_item.specs.Views.{item_of};
+ghost use Rattle.lt_device.specs.Moments.{MayLeave, Leaves, ConfinedTo, UnsyncedIn};
+ghost use Rattle.lt_format.specs.Layout.{is_geometry, extent_block};
+ghost use Rattle.lt_format.specs.Log.{group_room, log_fits, items_in};
+ghost use Rattle.lt_redo.specs.LogState.{LogState, other_area, slots_with, groups_with};
+ghost use Rattle.lt_redo.specs.Slots.{InSlot, InLogArea, HasLog, HasLogOrLonger, IsCleared};
+
+use crate::clear::clear_area;
+use crate::group::{finish, gather};
+use crate::slot::write_slot;
+use lt_device::Device;
+use lt_format::Geometry;
+use lt_item::{ItemView, cost};
+use lt_layout::write_gate;
+use lt_page::{Failed, NoMemory, Page};
+use std::alloc::Global;
+use std::marker::Model;
+
+/// What the items of a group cost at most.
+const GROUP_ROOM: u16 = 4092;
+
+/// The open group has no room for the item.
+#[derive(Clone, Copy, Debug, PartialEq, Eq)]
+pub struct GroupFull;
+
+/// A log over one log area of two. Its open group is in memory alone.
+#[derive(Drop)]
+pub struct Log {
+    geometry: Geometry,
+    area: u8,
+    writes: u64,
+    slots: u16,
+    content: Page,
+    count: u16,
+    used: u16,
+    cleared: bool,
+    opened: Page,
+    closed: Page,
+}
+
+impl Model for Log {
+    ghost use Rattle.lt_redo.specs.LogState.{LogState, IsKept};
+    ghost use Rattle.lt_redo.specs.Group.{items_on};
+
+    ghost Value = { LogState };
+
+    ghost view = { λ l. record {
+      geometry = l.geometry;
+      area = l.area;
+      writes = l.writes;
+      slots = l.slots;
+      pending = items_on l.content l.count l.used;
+      cleared = l.cleared;
+    } };
+
+    ghost invariant = { λ l. IsKept l.geometry l.area l.slots l.content l.count l.used l.opened l.closed };
+}
+
+impl Log {
+    /// A log with this many groups and nothing pending. All memory that it will need is taken here.
+    pub(crate) fn at(
+        alloc: Global,
+        geometry: &Geometry,
+        area: u8,
+        writes: u64,
+        slots: u16,
+    ) -> Result<Log, NoMemory>
+        requires valid { IsTrue (is_geometry geometry.now) }
+        requires area { area < 2 }
+        requires within { slots ≤ geometry.now.slots }
+        ensures { IfOk result (λ log. log ≡ record {
+          geometry = geometry.now;
+          area = area;
+          writes = writes;
+          slots = slots;
+          pending = [];
+          cleared = false;
+        }) }
+    {
+        let content = Page::new(alloc)?;
+        let mut opened = Page::new(alloc)?;
+        write_gate(&mut opened, true);
+        let mut closed = Page::new(alloc)?;
+        write_gate(&mut closed, false);
+        Ok(Log {
+            geometry: *geometry,
+            area,
+            writes,
+            slots,
+            content,
+            count: 0,
+            used: 0,
+            cleared: false,
+            opened,
+            closed,
+        })
+    }
+
+    /// Adds an item to the open group, in memory only. `GroupFull` exactly where the group would cost
+    /// more than 4,092 bytes, and then nothing changes.
+    pub fn append(&mut self, item: &ItemView<'_>) -> Result<(), GroupFull>
+        requires { IsTrue (is_valid (item_of item.now)) }
+        ensures ok { OnOk result (self.new ≡ record self.old { pending = self.old.pending ++ item_of item.now ∷ [] }) }
+        ensures full { IsErr result ↔ (group_room < total_cost self.old.pending + item_cost (item_of item.now)) }
+        ensures err { OnErr result (self.new ≡ self.old) }
+    {
+        if self.used + cost(item) > GROUP_ROOM {
+            return Err(GroupFull);
+        }
+        self.used = gather(&mut self.content, self.used, item);
+        self.count += 1;
+        Ok(())
+    }
+
+    /// How many items the open group has.
+    pub fn pending(&self) -> u16
+        ensures { result ≡ length self.now.pending }
+    {
+        self.count
+    }
+
+    /// How many slots hold no group.
+    pub fn slots_left(&self) -> u16
+        ensures { result + self.now.slots ≡ self.now.geometry.slots }
+    {
+        self.geometry.slots - self.slots
+    }
+
+    /// How many bytes the open group has room for.
+    pub fn room(&self) -> u16
+        ensures { result + total_cost self.now.pending ≡ group_room }
+    {
+        GROUP_ROOM - self.used
+    }
+
+    /// Commits the open group, which is empty then. With an empty group it makes no call of the device.
+    /// After `Failed` the store is opened again.
+    pub fn commit<D: Device>(&mut self, device: &mut D) -> Result<(), Failed>
+        requires within { extent_block self.old.geometry 0 ≤ D.blocks device.old }
+        requires room { 0 < length self.old.pending → self.old.slots < self.old.geometry.slots }
+        ensures ok { OnOk result (self.new ≡ record self.old { slots = slots_with self.old.slots self.old.pending; pending = [] }) }
+        ensures idle { self.old.pending ≡ [] → (IsOk result × (device.new ≡ device.old)) }
+
+        // Each image since the start has the log as before, or with the whole open group.
+        ensures any_moment { (groups : List (List Item)) → length groups ≡ self.old.slots
+            → IsTrue (log_fits self.old.writes (items_in (groups ++ self.old.pending ∷ [])))
+            → ((left : Image) → MayLeave (D.state device.old) left → HasLog self.old.geometry self.old.area self.old.writes groups left)
+            → Leaves (HasLogOrLonger self.old.geometry self.old.area self.old.writes groups self.old.pending) (D.state device.old) (D.state device.new) }
+
+        // After Ok only the latter.
+        ensures committed { OnOk result ((groups : List (List Item)) → length groups ≡ self.old.slots
+            → IsTrue (log_fits self.old.writes (items_in (groups ++ self.old.pending ∷ [])))
+            → ((left : Image) → MayLeave (D.state device.old) left → HasLog self.old.geometry self.old.area self.old.writes groups left)
+            → (left : Image) → MayLeave (D.state device.new) left → HasLog self.old.geometry self.old.area self.old.writes (groups_with groups self.old.pending) left) }
+        ensures confined { ConfinedTo (InSlot self.old.geometry self.old.area self.old.slots) (D.state device.old) (D.state device.new) }
+        ensures sure { OnOk result (0 < length self.old.pending → UnsyncedIn (λ _. ⊥) (D.state device.new)) }
+        ensures size { D.blocks device.new ≡ D.blocks device.old }
+        ensures count { D.reads device.new ≡ D.reads device.old }
+        ensures cause { HasCause (D.faults device.old) (D.faults device.new) result }
+    {
+        if self.count == 0 {
+            return Ok(());
+        }
+        finish(&mut self.content, self.count, self.used);
+        write_slot(
+            device,
+            &self.geometry,
+            self.area,
+            self.slots,
+            &self.content,
+            &self.opened,
+        )?;
+        self.content.clear();
+        self.count = 0;
+        self.used = 0;
+        self.slots += 1;
+        Ok(())
+    }
+
+    /// Closes all gates of the other area and makes sure of that.
+    pub fn clear_other<D: Device>(&mut self, device: &mut D) -> Result<(), Failed>
+        requires { extent_block self.old.geometry 0 ≤ D.blocks device.old }
+        ensures ok { OnOk result (self.new ≡ record self.old { cleared = true }) }
+        ensures err { OnErr result (self.new ≡ self.old) }
+        ensures cleared { OnOk result ((left : Image) → MayLeave (D.state device.new) left → IsCleared self.old.geometry (other_area self.old.area) left) }
+        ensures empty { OnOk result ((writes : ℕ) (left : Image) → MayLeave (D.state device.new) left → HasLog self.old.geometry (other_area self.old.area) writes [] left) }
+        ensures confined { ConfinedTo (InLogArea self.old.geometry (other_area self.old.area)) (D.state device.old) (D.state device.new) }
+        ensures sure { OnOk result (UnsyncedIn (λ _. ⊥) (D.state device.new)) }
+        ensures size { D.blocks device.new ≡ D.blocks device.old }
+        ensures count { D.reads device.new ≡ D.reads device.old }
+        ensures cause { HasCause (D.faults device.old) (D.faults device.new) result }
+    {
+        clear_area(device, &self.geometry, 1 - self.area, &self.closed)?;
+        self.cleared = true;
+        Ok(())
+    }
+
+    /// Goes to the other area, whose log starts at this number of writes.
+    pub fn turn(&mut self, writes: u64)
+        requires cleared { self.old.cleared ≡ true }
+        requires empty { self.old.pending ≡ [] }
+        ensures { self.new ≡ record self.old { area = other_area self.old.area; writes = writes; slots = 0; cleared = false } }
+    {
+        self.area = 1 - self.area;
+        self.writes = writes;
+        self.slots = 0;
+        self.cleared = false;
+    }
+}
