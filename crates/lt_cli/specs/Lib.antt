@@ -1,0 +1,10 @@
+pub mod Acting
+pub mod Buffer
+pub mod FirstPath
+pub mod Log
+pub mod Moves
+pub mod Opening
+pub mod Promise
+pub mod Serving
+pub mod Statuses
+pub mod Taking
