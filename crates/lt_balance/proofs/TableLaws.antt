@@ -13,8 +13,8 @@ use Rattle.lt_balance.specs.Entries.{AreEntries}
 use Rattle.lt_balance.specs.Columns.{AreColumns}
 
 -- the first so many entries have a placement, and these are their columns
-pub record IsFitted (es : List Entry) (count : ℕ) (columns : List Column) : Type 0 where
-  pub are : AreColumns (take count es) columns
+pub record IsFitted (es : List Entry) (count : ℕ) (cols : List Column) : Type 0 where
+  pub are : AreColumns (take count es) cols
   pub rest : first_fit (length es - count) count es ≡ table_count es
 
 fit_more : (es : List Entry) (count : ℕ) (b : Bool) → count < length es → has_placement (take (count + 1) es) ≡ b → first_fit (length es - count) count es ≡ cond b (first_fit (length es - (count + 1)) (count + 1) es) count
@@ -33,15 +33,15 @@ pub has_placement-is : {A : Type 0} (items : A → List Sending) (es : List Entr
 has_placement-is items es None is = placed_by es None is
 has_placement-is items es (Some made) is = placed_by es (Some (items made)) is
 
-pub IsFitted-start : (es : List Entry) (columns : List Column) → AreEntries es → 0 < length es → AreColumns [] columns → IsFitted es 0 columns
-IsFitted-start [] columns entries some are = absurd (omega arith)
-IsFitted-start (e ∷ es) columns entries some are = record {
+pub IsFitted-start : (es : List Entry) (cols : List Column) → AreEntries es → 0 < length es → AreColumns [] cols → IsFitted es 0 cols
+IsFitted-start [] cols entries some are = absurd (omega arith)
+IsFitted-start (e ∷ es) cols entries some are = record {
   are = are;
   rest = let one : length (e ∷ es) - (0 + 1) ≡ length (e ∷ es) - 1 = refl in fit_more (e ∷ es) 0 true some (has_placement-single e (entries.costs 0 e some));
 }
 
-pub IsFitted-more : (es : List Entry) (count : ℕ) (was columns : List Column) → IsFitted es count was → count < length es → AreColumns (take (count + 1) es) columns → has_placement (take (count + 1) es) ≡ true → IsFitted es (count + 1) columns
-IsFitted-more es count was columns fitted below are fits = record { are = are; rest = sym (fit_more es count true below fits) ∙ fitted.rest }
+pub IsFitted-more : (es : List Entry) (count : ℕ) (was cols : List Column) → IsFitted es count was → count < length es → AreColumns (take (count + 1) es) cols → has_placement (take (count + 1) es) ≡ true → IsFitted es (count + 1) cols
+IsFitted-more es count was cols fitted below are fits = record { are = are; rest = sym (fit_more es count true below fits) ∙ fitted.rest }
 
 -- one entry more has no placement
 pub IsFitted-full : (es : List Entry) (count : ℕ) (was : List Column) → IsFitted es count was → count < length es → has_placement (take (count + 1) es) ≡ false → count ≡ table_count es
