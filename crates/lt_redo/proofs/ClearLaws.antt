@@ -1,15 +1,13 @@
 -- Gates that are closed one after another.
-use Rattle.std.proofs.Common.{◌≡◌, ◌≢◌, ◌⊎◌, inl, inr, ⊎_elim, ℕ, zero, suc, ◌+◌, ◌<◌, ◌≤◌, refl, sym, ap, subst, ◌∙◌, List, [], true, false, Option, Some, None, arith}
+use Rattle.std.proofs.Common.{◌≡◌, ◌≢◌, ⊎_elim, ℕ, zero, suc, ◌+◌, ◌<◌, ◌≤◌, refl, ap, subst, ◌∙◌, [], false, Some, None, arith}
 use Rattle.std.proofs.lemmas.Bool.{cases_lt}
 use Rattle.lt_terms.specs.Bytes.{Image, block_at}
-use Rattle.lt_device.specs.Image.{SameOutside}
 use Rattle.lt_device.specs.State.{State, IsFit, Wrote, written, synced}
 use Rattle.lt_device.specs.Moments.{MayLeave}
 use Rattle.lt_device.proofs.Images.{block_at-set_other}
 use Rattle.lt_device.proofs.Steps.{written_is, written_shown, sync_only}
 use Rattle.lt_format.specs.declared.geometry.Geometry.{Geometry}
 use Rattle.lt_format.specs.Layout.{is_open, log_gate, gate_page, first_open}
-use Rattle.lt_format.specs.Log.{log_from}
 use Rattle.lt_redo.specs.Slots.{HasLog, IsCleared}
 use Rattle.lt_redo.proofs.LogLaws.{log_from-closed}
 

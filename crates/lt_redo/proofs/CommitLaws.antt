@@ -1,13 +1,12 @@
 -- The images of a commit: content, sync, gate, sync.
-use Rattle.std.proofs.Common.{◌≡◌, ◌⊎◌, inl, inr, ℕ, ◌+◌, ◌<◌, refl, sym, ap, subst, ◌∙◌, true, List, [], ◌∷◌, ◌++◌, length, Some, arith}
+use Rattle.std.proofs.Common.{◌≡◌, inl, ℕ, ◌<◌, ap, subst, true, List, [], ◌∷◌, ◌++◌, length}
 use Rattle.lt_terms.specs.Bytes.{Image, block_at}
 use Rattle.lt_terms.specs.Items.{Item}
-use Rattle.lt_device.specs.Image.{SameOutside}
-use Rattle.lt_device.specs.State.{State, IsFit, Wrote, EndedSync, written, synced}
+use Rattle.lt_device.specs.State.{State, IsFit, Wrote, written, synced}
 use Rattle.lt_device.specs.Moments.{MayLeave, Leaves}
-use Rattle.lt_device.proofs.Runs.{begins, goes_on, writes, syncs, weakens}
+use Rattle.lt_device.proofs.Runs.{begins, goes_on, writes, weakens}
 use Rattle.lt_device.proofs.Steps.{write_near, sync_only, sync_was, written_shown}
-use Rattle.lt_device.proofs.Fits.{wrote_fit, ended_fit}
+use Rattle.lt_device.proofs.Fits.{wrote_fit}
 use Rattle.lt_format.specs.declared.geometry.Geometry.{Geometry}
 use Rattle.lt_format.specs.Layout.{is_open, log_gate, log_content, gate_page}
 use Rattle.lt_redo.specs.Slots.{HasLog, HasLogOrLonger, MayFollow}

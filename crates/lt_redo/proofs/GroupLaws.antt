@@ -1,20 +1,19 @@
 -- Items that are gathered on a page.
-use Rattle.std.proofs.Common.{◌≡◌, ℕ, zero, suc, ◌+◌, ◌-◌, ◌<◌, ◌≤◌, refl, sym, ap, subst, ◌∙◌, List, [], ◌∷◌, ◌++◌, length, take, drop, Bool, true, false, ◌&&◌, ◌^◌, Option, Some, None, IsTrue, nat_le, arith, append_assoc}
+use Rattle.std.proofs.Common.{◌≡◌, ℕ, suc, ◌+◌, ◌-◌, ◌<◌, ◌≤◌, refl, sym, ap, subst, ◌∙◌, List, [], ◌∷◌, ◌++◌, length, take, drop, true, ◌&&◌, ◌^◌, Option, Some, None, IsTrue, nat_le, arith, append_assoc}
 use Rattle.std.specs.Prelude.{unwrap_or, slice_range, if◌then◌else◌}
 use Rattle.std.proofs.lemmas.Bool.{le-leb}
 use Rattle.std.proofs.lemmas.Nat.{from_be_bytes-to_be_bytes_2}
 use Rattle.lt_layout.proofs.SuperLaws.{all_zero-zeros}
-use Rattle.std.specs.List.{AllByRecursion, sum_by, flat_map}
+use Rattle.std.specs.List.{AllByRecursion}
 use Rattle.std.proofs.lemmas.List.{take_at, drop_at, length-append, append-nil, drop-drop, drop-take, drop-append-le, length-take-le}
 use Rattle.std.proofs.lemmas.Grind.{flat_map-append}
 use Rattle.std.proofs.lemmas.List.Sums.{sum_by-cons, sum_by_push}
 use Rattle.std.proofs.Math.Seq.{drop-append-add}
-use Rattle.lt_terms.specs.Bytes.{u16, u16_at, zeros, block_of, zero_block, all_zero}
+use Rattle.lt_terms.specs.Bytes.{u16_at, zeros, zero_block, all_zero}
 use Rattle.lt_terms.specs.Items.{Item, is_valid, item_cost, items_of, spelling, spellings, total_cost}
 use Rattle.lt_terms.proofs.ItemLaws.{items_of-spellings}
 use Rattle.lt_layout.proofs.FillLaws.{drop-zeros}
 use Rattle.lt_item.specs.Views.{item_written}
-use Rattle.lt_page.specs.Page.{filled}
 use Rattle.lt_format.specs.Log.{group_room, group_page, group_on}
 use Rattle.lt_redo.specs.Group.{items_on, IsGathered}
 

@@ -1,4 +1,4 @@
-use Rattle.std.proofs.Common.{◌≡◌, ℕ, ◌<◌, sym, ap, subst, ◌∙◌, List, false, arith}
+use Rattle.std.proofs.Common.{◌≡◌, ℕ, ◌<◌, subst, ◌∙◌, List, false, arith}
 use Rattle.lt_device.specs.State.{written}
 use Rattle.lt_device.proofs.Runs.{confined_writes}
 use Rattle.lt_format.specs.Layout.{log_gate, gate_page}

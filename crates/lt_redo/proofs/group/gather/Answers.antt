@@ -1,7 +1,6 @@
-use Rattle.std.proofs.Common.{◌≡◌, ℕ, ◌+◌, ◌-◌, List, [], ◌∷◌, ◌++◌, sym, subst, ap, ◌∙◌, arith}
+use Rattle.std.proofs.Common.{◌≡◌, ◌+◌, ◌-◌, arith}
 use Rattle.lt_terms.specs.Items.{item_cost}
 use Rattle.lt_item.specs.Views.{item_of}
-use Rattle.lt_redo.specs.Group.{IsGathered}
 use Rattle.lt_redo.proofs.GroupLaws.{IsGathered-push}
 use Rattle.lt_redo.proofs.group.gather.Goals as goal
 

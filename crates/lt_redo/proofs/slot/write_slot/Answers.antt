@@ -1,6 +1,6 @@
-use Rattle.std.proofs.Common.{◌≡◌, ℕ, ◌+◌, ◌<◌, sym, ap, subst, ◌∙◌, inl, inr, refl, rules, length, arith}
+use Rattle.std.proofs.Common.{◌≡◌, ℕ, ◌+◌, ◌<◌, sym, ap, subst, ◌∙◌, inl, inr, length, arith}
 use Rattle.std.proofs.lemmas.Result.{on_ok_weaker}
-use Rattle.lt_device.proofs.Runs.{confining, syncs, confined_begins, confined_writes}
+use Rattle.lt_device.proofs.Runs.{syncs, confined_begins, confined_writes}
 use Rattle.lt_device.proofs.Rest.{unsynced_none}
 use Rattle.std.proofs.Common.{List, true}
 use Rattle.lt_device.specs.State.{written}

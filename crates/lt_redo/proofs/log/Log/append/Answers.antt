@@ -1,4 +1,4 @@
-use Rattle.std.proofs.Common.{◌≡◌, ℕ, ◌+◌, List, [], ◌∷◌, ◌++◌, ap, ◌∙◌}
+use Rattle.std.proofs.Common.{List, [], ◌∷◌, ◌++◌, ap, ◌∙◌}
 use Rattle.lt_terms.specs.Items.{Item}
 use Rattle.lt_item.specs.Views.{item_of}
 use Rattle.lt_redo.specs.LogState.{LogState}

@@ -1,6 +1,5 @@
-use Rattle.std.proofs.Common.{◌≡◌, ℕ, List, [], ap, false}
+use Rattle.std.proofs.Common.{List, [], ap, false}
 use Rattle.lt_terms.specs.Items.{Item}
-use Rattle.lt_redo.specs.LogState.{LogState}
 use Rattle.lt_redo.proofs.GroupLaws.{IsGathered-none, IsGathered-read, items_on-gathered}
 use Rattle.lt_redo.proofs.log.Log.at.Goals as goal
 

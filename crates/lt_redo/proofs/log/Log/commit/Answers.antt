@@ -1,7 +1,6 @@
-use Rattle.std.proofs.Common.{◌≡◌, ℕ, ◌+◌, ◌<◌, ◌≤◌, List, [], ◌∷◌, ◌++◌, ap, sym, ◌∙◌, subst, length, arith}
+use Rattle.std.proofs.Common.{ℕ, ◌+◌, ◌<◌, List, [], ap, sym, ◌∙◌, subst, arith}
 use Rattle.lt_terms.specs.Items.{Item}
-use Rattle.lt_device.proofs.Runs.{begins}
-use Rattle.lt_redo.specs.LogState.{LogState, slots_with, groups_with}
+use Rattle.lt_redo.specs.LogState.{LogState, slots_with}
 use Rattle.lt_redo.specs.Slots.{HasLog}
 use Rattle.lt_redo.specs.Group.{items_on}
 use Rattle.lt_redo.proofs.GroupLaws.{IsGathered-none, IsGathered-read, items_on-gathered}
