@@ -26,5 +26,4 @@ pub fn are_entries(entries: &[Entry]) -> bool
 /// A front of entries, and the rest behind it, may be placed and cut too.
 pub fn parts_are_entries()
     ensures { (n : ℕ) (es : List Entry) → AreEntries es → AreEntries (take n es) × AreEntries (drop n es) }
-{
-}
+{}

@@ -14,3 +14,6 @@ mod turns;
 
 pub use status::Status;
 pub use top::lsm_trie;
+
+#[cfg(test)]
+mod tests;
