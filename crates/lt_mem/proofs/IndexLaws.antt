@@ -153,3 +153,7 @@ index-renewed bytes places heads items index = subst (IsIndex bytes places heads
 -- what was read of the heads
 pub head_is : (heads : List ℕ) (items : List Item) (b number : ℕ) → length heads ≡ 65536 → ((b : ℕ) → b < 65536 → slice_index heads b ≡ last_in b items) → b < 65536 → number ≡ get_or heads b number → number ≡ last_in b items
 head_is heads items b number buckets heads_are below head = head ∙ get_or_default_zero heads b number (omega arith) ∙ heads_are b below
+
+-- all items are valid
+pub index-valid : (bytes : List ℕ) (places : List Place) (heads : List ℕ) (items : List Item) → IsIndex bytes places heads items → list_all is_valid items ≡ true
+index-valid bytes places heads items index = (items_of-reads (length places) bytes items index.read).valid

@@ -1,2 +1,3 @@
 mod IndexLaws
 mod Walk
+mod ByRank

@@ -1,13 +1,16 @@
 //! Items in one buffer, found by a hash of their keys.
 
 ghost use Rattle.std.specs.Prelude.{◌≡◌, ◌+◌, ◌<◌, ◌≤◌, ◌∷◌, [], ◌++◌, IfOk, IsTrue, vec_len, vec_capacity};
+ghost use Rattle.std.specs.List.{list_all};
 ghost use Rattle.std.specs.Option.{option_map};
 ghost use Rattle.lt_terms.specs.Items.{is_key, is_valid, item_cost, spelling, total_cost};
 ghost use Rattle.lt_terms.specs.declared.Kind.TheVariants.{Put, Delete};
 ghost use Rattle.lt_item.specs.Views.{item_of};
-ghost use Rattle.lt_tables.specs.Merge.{newest_of};
+ghost use Rattle.lt_tables.specs.Merge.{newest, newest_of};
 ghost use Rattle.lt_mem.specs.Index.{bucket_of};
 
+use crate::ranking::newest_items;
+use lt_bucket::{Item, Items};
 use lt_item::{ItemView, Kind, item_header, parts_of, read_item};
 use lt_page::NoMemory;
 use std::alloc::Global;
@@ -130,6 +133,20 @@ impl MemTable {
         ensures { result ≡ total_cost self.now }
     {
         self.bytes.len() as u32
+    }
+
+    /// The newest item of each key, in rank order, a delete included.
+    pub fn batch(&self, alloc: Global) -> Result<Vec<Item>, NoMemory>
+        ensures { IfOk result (λ batch. batch.items ≡ newest self.now) }
+    {
+        newest_items(alloc, self.items())
+    }
+
+    fn items(&self) -> Items<'_>
+        ensures items { result ≡ self.now }
+        ensures valid { IsTrue (list_all is_valid self.now) }
+    {
+        Items::of(self.places.len() as u16, &self.bytes).unwrap()
     }
 
     /// Takes all items out.
