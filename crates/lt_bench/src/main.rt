@@ -2,13 +2,17 @@
 //! prints nothing.
 #![tactic(auto)]
 
+mod memory;
 mod plain;
 mod sample;
 
 use lt_balance::{are_entries, cut};
+use lt_mem::MemTable;
 use lt_page::NoMemory;
+use memory::{found_in_map, found_in_table};
 use plain::plain_cut;
 use sample::sample_entries;
+use std::collections::HashMap;
 use std::rt::Clock;
 use std::time::Instant;
 use std::{env, io};
@@ -16,10 +20,15 @@ use std::{env, io};
 /// As many items as a memory table holds at most.
 const ENTRIES: u32 = 40_000;
 
+/// As many items with keys of two bytes as a memory table holds.
+const KEYS: u16 = 34_000;
+
 fn main(rt: HostRuntime) -> io::Result<()> {
     for word in env::args(&rt)? {
-        if word.as_str() == "cut" {
-            time_cut(&rt)?;
+        match word.as_str() {
+            "cut" => time_cut(&rt)?,
+            "memory" => time_memory(&rt)?,
+            _ => (),
         }
     }
     Ok(())
@@ -45,6 +54,26 @@ fn time_cut<R: Clock + Print + AllocGlobal>(rt: &R) -> io::Result<()> {
     let ratio = plain_time.as_nanos() / cut_time.as_nanos().max(1);
     let tables = counts.len();
     println!(rt; "cut: {tables} tables, a test of every front takes {ratio} times as long")
+}
+
+/// Prints how long puts and gets in the memory table take, in hundredths of what they take in std's map.
+fn time_memory<R: Clock + Print + AllocGlobal>(rt: &R) -> io::Result<()> {
+    let mut table = MemTable::new(rt.alloc()).map_err(no_memory)?;
+    let mut map = HashMap::new(rt.alloc());
+
+    let start = Instant::now(rt)?;
+    let found = found_in_table(&mut table, KEYS);
+    let table_time = start.elapsed(rt)?;
+
+    let start = Instant::now(rt)?;
+    let plain_found = found_in_map(rt.alloc(), &mut map, KEYS).map_err(no_memory)?;
+    let map_time = start.elapsed(rt)?;
+
+    if found != plain_found {
+        return println!(rt; "memory: the finds differ");
+    }
+    let percent = table_time.as_nanos() * 100 / map_time.as_nanos().max(1);
+    println!(rt; "memory: {found} keys, the table takes {percent} hundredths of the map's time")
 }
 
 fn no_memory(_: NoMemory) -> io::Error {

@@ -179,7 +179,7 @@ fn many_lines(alloc: Global, count: u8) -> Result<Vec<u8>, NoMemory> {
 /// The bytes in pieces of so many bytes.
 fn cut(alloc: Global, bytes: &[u8], len: usize) -> Result<SteadySource, NoMemory> {
     let mut pieces = Vec::new(alloc);
-    for piece in bytes.chunks(len) {
+    for piece in bytes.chunks(len.max(1)) {
         pieces.push(piece.to_vec(alloc)?)?;
     }
     Ok(SteadySource::new(pieces))
