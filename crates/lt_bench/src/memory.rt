@@ -8,7 +8,7 @@ use std::collections::HashMap;
 /// Puts so many keys of two bytes in, gets each, and answers how many were found.
 pub fn found_in_table(table: &mut MemTable, count: u16) -> u16 {
     for number in 0..count {
-        if table.bytes() + 6 <= 204_092 {
+        if table.bytes() <= 204_086 {
             table.put(&number.to_be_bytes(), &[]);
         }
     }

@@ -26,6 +26,9 @@ const BUCKETS: usize = 65536;
 
 /// Items in the order in which they were put in. All memory is taken by `new`.
 ///
+/// A look-up costs the SHA-1 of its key and a step for each linked item. `lt_bench memory` times puts and
+/// gets of 34,000 keys beside std's hash map: they took about three times as long.
+///
 /// An item is found by 16 bits of its key's hash. Items with the same 16 bits are linked, the
 /// newest first, and a look-up follows the links. The hash is no secret: keys can be chosen so
 /// that all of them are linked, and a look-up then reads all items, 40,818 at most. Putting an
