@@ -1,16 +1,16 @@
 -- A bucket that fits is read again from its page.
-use Rattle.std.proofs.Common.{◌≡◌, ℕ, zero, suc, ◌+◌, ◌-◌, ◌<◌, ◌≤◌, ◌^◌, refl, sym, ap, ◌∙◌, List, [], ◌∷◌, ◌++◌, length, take, drop, Bool, true, false, ◌&&◌, Option, Some, None, arith, le-leb, lt-ltb, take_at, drop_at, length-append}
+use Rattle.std.proofs.Common.{◌≡◌, ℕ, zero, suc, ◌+◌, ◌-◌, ◌<◌, ◌≤◌, ◌^◌, refl, sym, ap, ◌∙◌, List, [], ◌∷◌, ◌++◌, length, take, drop, true, Option, Some, None, arith, le-leb, lt-ltb, take_at, drop_at, length-append}
 use Rattle.std.specs.Prelude.{IsTrue, nat_le, nat_lt}
 use Rattle.std.specs.List.{list_all, AllByRecursion}
 use Rattle.std.specs.Option.{ForSome}
 use Rattle.std.proofs.lemmas.Bool.{and_parts}
 use Rattle.std.proofs.lemmas.List.Sums.{sum_by-cons}
 use Rattle.std.proofs.lemmas.Nat.{from_be_bytes-to_be_bytes_2, from_be_bytes-to_be_bytes_4}
-use Rattle.lt_terms.specs.Bytes.{u16, u32, u16_at, u32_at, zeros, all_zero}
-use Rattle.lt_terms.specs.Items.{Item, is_valid, item_cost, total_cost, spelling, spellings, items_of}
+use Rattle.lt_terms.specs.Bytes.{zeros, all_zero}
+use Rattle.lt_terms.specs.Items.{Item, is_valid, item_cost, total_cost, spelling, spellings}
 use Rattle.lt_terms.proofs.ItemLaws.{items_of-spellings}
 use Rattle.lt_tables.specs.declared.Sends.{Sends}
-use Rattle.lt_tables.specs.Bucket.{Bucket, capacity, sends_bytes, bucket_of, bucket_page_1, bucket_of_page_1}
+use Rattle.lt_tables.specs.Bucket.{capacity, bucket_of, bucket_page_1, bucket_of_page_1}
 
 pub all_zero-zeros : (n : ℕ) → all_zero (zeros n) ≡ true
 unfolding zeros

@@ -1,14 +1,13 @@
 -- The page of a bucket that is finished.
-use Rattle.std.proofs.Common.{◌≡◌, ℕ, ◌+◌, ◌-◌, ◌<◌, ◌≤◌, ◌^◌, refl, sym, ap, subst, ◌∙◌, List, [], ◌∷◌, ◌++◌, length, take, drop, true, Option, Some, None, is_some, zero-add, arith, append_assoc}
+use Rattle.std.proofs.Common.{◌≡◌, ℕ, ◌+◌, ◌-◌, ◌<◌, ◌≤◌, ◌^◌, refl, sym, ap, subst, ◌∙◌, List, [], ◌++◌, length, take, drop, true, Option, Some, None, is_some, zero-add, arith, append_assoc}
 use Rattle.std.specs.Option.{ForSome}
-use Rattle.std.specs.List.{list_all}
-use Rattle.std.proofs.lemmas.List.{length-append, length-replicate, length-take-le, length-drop, take_at, drop_at, drop_all, append-nil}
+use Rattle.std.proofs.lemmas.List.{length-append, length-replicate, take_at, drop_at, drop_all, append-nil}
 use Rattle.std.proofs.Math.Seq.{take-append-add}
 use Rattle.lt_terms.specs.Bytes.{zeros, block_of}
-use Rattle.lt_terms.specs.Items.{Item, is_valid, total_cost, spellings, items_of}
+use Rattle.lt_terms.specs.Items.{Item, total_cost, spellings, items_of}
 use Rattle.lt_page.specs.Page.{filled}
 use Rattle.lt_tables.specs.declared.Sends.{Sends}
-use Rattle.lt_tables.specs.Bucket.{Bucket, capacity, sends_bytes, bucket_of, bucket_page_1}
+use Rattle.lt_tables.specs.Bucket.{bucket_of, bucket_page_1}
 use Rattle.lt_bucket.specs.Reading.{items_in}
 use Rattle.lt_bucket.specs.Building.{header_of, used_bytes, items_used, IsSpelled}
 use Rattle.lt_bucket.proofs.ItemsOf.{items_in-reads}

@@ -1,6 +1,6 @@
 -- A page on which items are put one behind the other.
-use Rattle.std.proofs.Common.{◌≡◌, ℕ, suc, ◌+◌, ◌-◌, ◌≤◌, refl, sym, ap, ◌∙◌, List, [], ◌∷◌, ◌++◌, length, take, drop, Bool, true, ◌&&◌, Some, is_some, add-zero, arith}
-use Rattle.std.specs.Prelude.{IsTrue, unwrap_or}
+use Rattle.std.proofs.Common.{◌≡◌, ℕ, ◌+◌, ◌≤◌, refl, sym, ap, ◌∙◌, List, [], ◌∷◌, ◌++◌, length, take, drop, true, Some, is_some, add-zero, arith}
+use Rattle.std.specs.Prelude.{unwrap_or}
 use Rattle.std.specs.List.{list_all}
 use Rattle.std.proofs.lemmas.List.{length-append, length-take-le, length-drop, take_at, drop-append-le, drop-take, append-nil}
 use Rattle.std.proofs.lemmas.List.Concat.{flat_map-append}
@@ -11,8 +11,8 @@ use Rattle.lt_terms.proofs.ItemLaws.{items_of-spellings}
 use Rattle.lt_tables.specs.Bucket.{capacity}
 use Rattle.lt_item.specs.Views.{item_written}
 use Rattle.lt_bucket.specs.Building.{used_bytes, items_used, IsSpelled}
-use Rattle.lt_bucket.proofs.ItemsOf.{AreRead, items_in-reads}
-use Rattle.lt_bucket.proofs.BucketPages.{valid_each, length-spelling, length-spellings, count_small}
+use Rattle.lt_bucket.proofs.ItemsOf.{items_in-reads}
+use Rattle.lt_bucket.proofs.BucketPages.{valid_each, length-spelling, count_small}
 
 -- the bytes in use, with the item behind them
 used-written : (old : List ℕ) (used : ℕ) (item : Item) → 16 + used ≤ length old → used_bytes (item_written old (16 + used) item) (used + length (spelling item)) ≡ used_bytes old used ++ spelling item

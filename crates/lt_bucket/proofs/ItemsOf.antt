@@ -1,5 +1,5 @@
 -- Items that fill bytes, read one after another.
-use Rattle.std.proofs.Common.{◌≡◌, ℕ, zero, suc, ◌+◌, ◌-◌, ◌<◌, ◌≤◌, refl, sym, ap, subst, ◌∙◌, cond, List, [], ◌∷◌, length, drop, Bool, true, false, ◌&&◌, Option, Some, None, is_some, arith}
+use Rattle.std.proofs.Common.{◌≡◌, ℕ, zero, suc, ◌-◌, ◌≤◌, refl, sym, ap, subst, ◌∙◌, cond, List, [], ◌∷◌, length, drop, Bool, true, false, Option, Some, None, is_some, arith}
 use Rattle.std.specs.Prelude.{◌==◌, IsTrue, unwrap_or, nat_le}
 use Rattle.std.specs.List.{list_all}
 use Rattle.std.specs.Option.{option_and_then, option_map}

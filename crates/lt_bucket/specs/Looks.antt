@@ -1,5 +1,4 @@
 -- What a look-up in a bucket answers, with the item borrowed.
-use Rattle.std.specs.Prelude.{ℕ}
 use Rattle.lt_item.specs.Views.{item_of}
 use Rattle.lt_tables.specs.Bucket as table
 use Rattle.lt_bucket.specs.declared.view.Look.{Look}

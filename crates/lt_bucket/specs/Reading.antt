@@ -3,7 +3,7 @@ use Rattle.std.specs.Prelude.{◌≡◌, ℕ, ◌+◌, ◌&&◌, List, [], Optio
 use Rattle.lt_terms.specs.Bytes.{u16_at, all_zero}
 use Rattle.lt_terms.specs.Items.{Item, items_of}
 use Rattle.lt_tables.specs.declared.Sends.{Sends}
-use Rattle.lt_tables.specs.Bucket.{Bucket, bucket_of, capacity}
+use Rattle.lt_tables.specs.Bucket.{bucket_of, capacity}
 
 -- the items that fill the bytes, if they do
 abbrev pub items_in : ℕ → List ℕ → List Item

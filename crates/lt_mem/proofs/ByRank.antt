@@ -1,12 +1,11 @@
 -- A map by rank is the ranked list.
-use Rattle.std.proofs.Common.{◌≡◌, ℕ, refl, sym, ap, subst, ◌∙◌, List, [], ◌∷◌, map, Bool, true, ◌&&◌}
+use Rattle.std.proofs.Common.{◌≡◌, ℕ, refl, sym, ap, subst, ◌∙◌, List, [], ◌∷◌, map, true}
 use Rattle.std.proofs.lemmas.Bool.{and_parts}
 use Rattle.std.specs.Prelude.{IsTrue}
-use Rattle.std.specs.List.{AllByRecursion, list_all, fold}
+use Rattle.std.specs.List.{list_all, fold}
 use Rattle.std.specs.declared.cmp.Ordering.{Ordering}
 use Rattle.std.specs.declared.cmp.Ordering.TheVariants.{Less, Equal, Greater}
-use Rattle.std.specs.Ordering.{match_ordering, nat_cmp, ordering_then}
-use Rattle.std.specs.Cmp.Lexicographic.{slice_cmp}
+use Rattle.std.specs.Ordering.{match_ordering}
 use Rattle.std.specs.FinMap.{put}
 use Rattle.std.specs.FinMap.Entries.{by_order}
 use Rattle.std.specs.BTreeMap.{insert_entry}
@@ -16,7 +15,7 @@ use Rattle.lt_item.specs.declared.view.ItemView.{ItemView}
 use Rattle.lt_item.specs.Views.{item_of}
 use Rattle.lt_tables.specs.Merge.{newest, ranked}
 use Rattle.lt_mem.specs.declared.ranking.Rank.{Rank}
-use Rattle.lt_mem.specs.Ranking.{IsRankOf, IsRanked, AreRanked, shown, ranked_entries}
+use Rattle.lt_mem.specs.Ranking.{IsRankOf, AreRanked, shown, ranked_entries}
 use Rattle.lt_mem.specs.contracts.ranking.RankOrd.TheImpl.{cmp-value}
 
 -- the derived order is the order of ranks

@@ -1,5 +1,5 @@
 -- Places and heads, one item more at a time.
-use Rattle.std.proofs.Common.{◌≡◌, ◌≢◌, ℕ, zero, suc, ◌+◌, ◌-◌, ◌<◌, ◌≤◌, refl, sym, ap, subst, ◌∙◌, List, [], ◌∷◌, ◌++◌, length, take, drop, get_or, set, Bool, true, false, cond, Some, ◌⊎◌, inl, inr, add-zero, add_assoc, arith, append_assoc}
+use Rattle.std.proofs.Common.{◌≡◌, ℕ, zero, suc, ◌+◌, ◌<◌, ◌≤◌, refl, sym, ap, subst, ◌∙◌, List, [], ◌∷◌, ◌++◌, length, take, get_or, set, true, false, cond, inl, inr, add-zero, arith, append_assoc}
 use Rattle.std.specs.Prelude.{◌==◌, ◌*◌, nat_le, slice_index, unwrap_or, replicate}
 use Rattle.std.specs.List.{list_all}
 use Rattle.std.proofs.lemmas.Bool.{and_parts, leb-true}
@@ -7,10 +7,10 @@ use Rattle.std.proofs.lemmas.List.{length-append, append-nil, length-set, get_or
 use Rattle.std.proofs.lemmas.Grind.{get_or-set_at, get_or_default_zero}
 use Rattle.std.proofs.lemmas.Bool.Decides.{eqb_tells}
 use Rattle.std.proofs.lemmas.List.Sums.{sum_by-append, sum_by-cons}
-use Rattle.lt_terms.specs.Items.{Item, is_key, is_valid, value_limit, item_cost, total_cost, spelling, spellings, items_of}
+use Rattle.lt_terms.specs.Items.{Item, is_key, is_valid, value_limit, item_cost, total_cost, spelling, items_of}
 use Rattle.lt_bucket.specs.Reading.{items_in}
 use Rattle.lt_bucket.proofs.BucketPages.{length-spellings}
-use Rattle.lt_bucket.proofs.ItemsOf.{AreRead, items_of-reads}
+use Rattle.lt_bucket.proofs.ItemsOf.{items_of-reads}
 use Rattle.lt_bucket.proofs.Growing.{items-more, spellings-more}
 use Rattle.lt_mem.specs.declared.table.Place.{Place}
 use Rattle.lt_mem.specs.Index.{bucket_of, last_from, last_in, place_behind, places_from, IsIndex}

@@ -1,7 +1,7 @@
 -- A walk along the links of a bucket finds the newest item of a key.
-use Rattle.std.proofs.Common.{◌≡◌, ◌≢◌, ℕ, zero, suc, ◌+◌, ◌-◌, ◌<◌, ◌≤◌, refl, sym, ap, subst, ◌∙◌, List, [], ◌∷◌, ◌++◌, length, take, drop, get_or, drop-cons, Bool, true, false, cond, Option, Some, None, ◌⊎◌, inl, inr, arith}
+use Rattle.std.proofs.Common.{◌≡◌, ℕ, zero, suc, ◌+◌, ◌-◌, ◌<◌, ◌≤◌, refl, sym, ap, subst, ◌∙◌, List, [], ◌∷◌, ◌++◌, length, take, drop, get_or, drop-cons, Bool, true, false, cond, Option, Some, None, inl, inr, arith}
 use Rattle.std.specs.Prelude.{◌==◌, slice_index}
-use Rattle.std.specs.List.{last_or, filter, list_all}
+use Rattle.std.specs.List.{last_or, list_all}
 use Rattle.std.specs.Option.{option_map_or}
 use Rattle.std.specs.Cmp.Lexicographic.{bytes_decides}
 use Rattle.std.proofs.lemmas.Bool.{cases_Bool, eq-eqb, and_parts}
@@ -17,7 +17,7 @@ use Rattle.lt_bucket.proofs.BucketPages.{length-spellings}
 use Rattle.lt_terms.specs.declared.Kind.TheVariants.{Put}
 use Rattle.lt_bucket.proofs.ItemsOf.{items_of-reads}
 use Rattle.lt_mem.specs.declared.table.Place.{Place}
-use Rattle.lt_mem.specs.Index.{bucket_of, last_from, last_in, place_behind, places_from, IsIndex}
+use Rattle.lt_mem.specs.Index.{bucket_of, last_from, last_in, place_behind, IsIndex}
 use Rattle.lt_mem.proofs.IndexLaws.{last_in-more, last_in-bound, place_at, head_is}
 
 last_or-more : {A : Type 0} (o : Option A) (xs : List A) (x : A) → last_or o (xs ++ x ∷ []) ≡ Some x

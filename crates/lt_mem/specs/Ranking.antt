@@ -1,5 +1,5 @@
 -- Borrowed items under their ranks.
-use Rattle.std.specs.Prelude.{◌≡◌, ℕ, List, [], ◌∷◌, map, IsTrue}
+use Rattle.std.specs.Prelude.{◌≡◌, ℕ, List, map, IsTrue}
 use Rattle.std.specs.List.{AllByRecursion}
 use Rattle.lt_terms.specs.Hashes.{key_hash, key_suffix}
 use Rattle.lt_terms.specs.Items.{Item, is_valid}

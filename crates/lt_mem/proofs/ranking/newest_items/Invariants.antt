@@ -1,6 +1,4 @@
-use Rattle.std.proofs.Common.{◌≡◌, ◌++◌, map}
-use Rattle.lt_terms.specs.Items.{Item}
-use Rattle.lt_item.specs.Views.{item_of}
+use Rattle.std.proofs.Common.{◌≡◌, ◌++◌}
 use Rattle.lt_mem.specs.Ranking.{AreRanked}
 use Rattle.lt_mem.proofs.ByRank.{items_ranked}
 use Rattle.lt_mem.proofs.ranking.newest_items.Given as goal

@@ -1,6 +1,5 @@
 use Rattle.std.proofs.Common.{ap, ◌%◌}
 use Rattle.lt_item.specs.Parts.{parts_of}
-use Rattle.lt_mem.proofs.IndexLaws.{index-more, index-none}
 use Rattle.lt_mem.proofs.table.bucket_of.Goals as goal
 
 pub returns-clause-bucket : goal.returns-clause-bucket

@@ -1,7 +1,7 @@
 use Rattle.std.proofs.Common.{◌≡◌, ◌≤◌, ◌+◌, ◌-◌, length, arith}
 use Rattle.lt_terms.specs.Items.{item_cost}
 use Rattle.lt_item.specs.Views.{item_of}
-use Rattle.lt_bucket.proofs.Growing.{HasMore, more_spelled, count_fits}
+use Rattle.lt_bucket.proofs.Growing.{more_spelled, count_fits}
 use Rattle.lt_bucket.proofs.builder.BucketBuilder.add.Goals as goal
 
 pub overflow_add-self-2 : goal.overflow_add-self-2

@@ -1,4 +1,4 @@
-use Rattle.std.proofs.Common.{◌≡◌, ◌∙◌, sym, ap, ◌+◌, ◌-◌, arith, true, false, None, is_some}
+use Rattle.std.proofs.Common.{◌∙◌, sym, ◌+◌, ◌-◌, arith}
 use Rattle.lt_bucket.proofs.ItemsOf.{is_some-none, is_some-one, is_some-whole, is_some-part, unwrapped, nothing}
 use Rattle.lt_bucket.proofs.reading.Items.of.Goals as goal
 

@@ -1,4 +1,4 @@
-use Rattle.std.proofs.Common.{rules, ◌≡◌, ◌∙◌, sym, ap, ◌-◌, ◌∷◌, arith, true, false, is_some}
+use Rattle.std.proofs.Common.{rules, ◌≡◌, ◌∙◌, sym, ap, ◌-◌, ◌∷◌, arith, true, is_some}
 use Rattle.lt_terms.specs.Items.{items_of}
 use Rattle.lt_item.specs.Views.{item_of}
 use Rattle.lt_bucket.specs.Reading.{items_in}

@@ -1,6 +1,5 @@
-use Rattle.std.proofs.Common.{◌≡◌, ◌∙◌, ap, length, arith}
+use Rattle.std.proofs.Common.{◌∙◌, ap, arith}
 use Rattle.lt_terms.specs.Items.{total_cost}
-use Rattle.lt_mem.specs.Inside.{items_inside}
 use Rattle.lt_mem.proofs.IndexLaws.{index-bytes}
 use Rattle.lt_mem.proofs.table.MemTable.bytes.Goals as goal
 

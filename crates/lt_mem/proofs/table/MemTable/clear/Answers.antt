@@ -1,4 +1,4 @@
-use Rattle.std.proofs.Common.{◌≤◌, ◌∙◌, arith}
+use Rattle.std.proofs.Common.{◌∙◌, arith}
 use Rattle.lt_mem.proofs.IndexLaws.{index-empty, items-empty}
 use Rattle.lt_mem.proofs.table.MemTable.clear.Goals as goal
 

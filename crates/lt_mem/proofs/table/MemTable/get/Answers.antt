@@ -1,4 +1,4 @@
-use Rattle.std.proofs.Common.{◌≡◌, ◌≤◌, ◌∙◌, sym, ap, length, Some, arith}
+use Rattle.std.proofs.Common.{◌≡◌, ◌∙◌, sym, ap, Some, arith}
 use Rattle.lt_terms.specs.Bytes.{same_bytes}
 use Rattle.lt_terms.specs.Items.{Item}
 use Rattle.lt_item.specs.Views.{item_of}

@@ -1,4 +1,3 @@
-use Rattle.std.proofs.Common.{◌≡◌}
 use Rattle.lt_mem.specs.Inside.{items_inside}
 use Rattle.lt_mem.proofs.Walk.{IsAt}
 use Rattle.lt_mem.proofs.table.MemTable.get.Given as goal

@@ -1,4 +1,4 @@
-use Rattle.std.proofs.Common.{◌≡◌, ◌∙◌, sym, ap, true, arith}
+use Rattle.std.proofs.Common.{◌∙◌, sym, ap, arith}
 use Rattle.std.specs.List.{list_all}
 use Rattle.lt_terms.specs.Items.{is_valid}
 use Rattle.lt_mem.proofs.IndexLaws.{cost_of_places, index-valid}
