@@ -80,6 +80,7 @@ impl<'a> BucketBuilder<'a> {
     }
 }
 
+// What the rest of a page is filled with.
 static ZEROS: [u8; 4080] = [0; 4080];
 
 #[tactic(auto, unfolding(lt_terms::specs::Bytes::zeros))]

@@ -28,6 +28,9 @@ pub enum Look<'a> {
 }
 
 /// A page that spells a bucket. Contracts see the page's bytes.
+///
+/// The view and each item of it borrow the page: a program that changes the page while one of them
+/// is still in use does not compile.
 #[derive(Drop)]
 pub struct BucketView<'a> {
     page: &'a Page,

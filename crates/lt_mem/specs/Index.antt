@@ -1,8 +1,20 @@
--- Items in one buffer, linked where their keys share 16 bits of their hash.
+-- Items in one buffer, and their places in it, linked where their keys share 16 bits of their hash.
 use Rattle.std.specs.Prelude.{◌≡◌, ℕ, ◌+◌, ◌%◌, ◌<◌, ◌≤◌, List, [], ◌∷◌, ◌++◌, length, Some, ◌==◌, if◌then◌else◌, slice_index}
 use Rattle.lt_terms.specs.Hashes.{key_suffix}
+use Rattle.lt_terms.specs.declared.Kind.TheVariants.{Put, Delete}
 use Rattle.lt_terms.specs.Items.{Item, total_cost, spellings, items_of}
 use Rattle.lt_mem.specs.declared.table.Place.{Place}
+
+-- what all items in the table may cost
+abbrev pub table_room : ℕ
+table_room = 204092
+
+-- the items that put and delete put in
+abbrev pub put_of : List ℕ → List ℕ → Item
+put_of key value = record { kind = Put; key = key; value = value }
+
+abbrev pub delete_of : List ℕ → Item
+delete_of key = record { kind = Delete; key = key; value = [] }
 
 -- the 16 bits of a key
 abbrev pub bucket_of : List ℕ → ℕ
@@ -30,7 +42,7 @@ places_from before (item ∷ items) = place_behind before item ∷ places_from (
 pub record IsIndex (bytes : List ℕ) (places : List Place) (heads : List ℕ) (items : List Item) : Type 0 where
   pub read : items_of (length places) bytes ≡ Some items
   pub whole : bytes ≡ spellings items
-  pub fits : total_cost items ≤ 204092
+  pub fits : total_cost items ≤ table_room
   pub places_are : places ≡ places_from [] items
   pub buckets : length heads ≡ 65536
   pub heads_are : (b : ℕ) → b < 65536 → slice_index heads b ≡ last_in b items

@@ -4,10 +4,9 @@ ghost use Rattle.std.specs.Prelude.{◌≡◌, ◌+◌, ◌<◌, ◌≤◌, ◌�
 ghost use Rattle.std.specs.List.{list_all};
 ghost use Rattle.std.specs.Option.{option_map};
 ghost use Rattle.lt_terms.specs.Items.{is_key, is_valid, item_cost, spelling, total_cost};
-ghost use Rattle.lt_terms.specs.declared.Kind.TheVariants.{Put, Delete};
 ghost use Rattle.lt_item.specs.Views.{item_of};
 ghost use Rattle.lt_tables.specs.Merge.{newest, newest_of};
-ghost use Rattle.lt_mem.specs.Index.{bucket_of};
+ghost use Rattle.lt_mem.specs.Index.{bucket_of, delete_of, put_of, table_room};
 
 use crate::ranking::newest_items;
 use lt_bucket::{Item, Items};
@@ -76,9 +75,9 @@ impl MemTable {
 
     /// Puts a value in under a key.
     pub fn put(&mut self, key: &[u8], value: &[u8])
-        requires valid { IsTrue (is_valid (record { kind = Put; key = key.now; value = value.now })) }
-        requires room { total_cost self.old + item_cost (record { kind = Put; key = key.now; value = value.now }) ≤ 204092 }
-        ensures { self.new ≡ self.old ++ (record { kind = Put; key = key.now; value = value.now }) ∷ [] }
+        requires valid { IsTrue (is_valid (put_of key.now value.now)) }
+        requires room { total_cost self.old + item_cost (put_of key.now value.now) ≤ table_room }
+        ensures { self.new ≡ self.old ++ put_of key.now value.now ∷ [] }
     {
         self.add(&ItemView {
             kind: Kind::Put,
@@ -90,8 +89,8 @@ impl MemTable {
     /// Puts the delete of a key in.
     pub fn delete(&mut self, key: &[u8])
         requires valid { IsTrue (is_key key.now) }
-        requires room { total_cost self.old + item_cost (record { kind = Delete; key = key.now; value = [] }) ≤ 204092 }
-        ensures { self.new ≡ self.old ++ (record { kind = Delete; key = key.now; value = [] }) ∷ [] }
+        requires room { total_cost self.old + item_cost (delete_of key.now) ≤ table_room }
+        ensures { self.new ≡ self.old ++ delete_of key.now ∷ [] }
     {
         self.add(&ItemView {
             kind: Kind::Delete,
@@ -102,7 +101,7 @@ impl MemTable {
 
     fn add(&mut self, item: &ItemView<'_>)
         requires valid { IsTrue (is_valid (item_of item.now)) }
-        requires room { total_cost self.old + item_cost (item_of item.now) ≤ 204092 }
+        requires room { total_cost self.old + item_cost (item_of item.now) ≤ table_room }
         ensures { self.new ≡ self.old ++ item_of item.now ∷ [] }
     {
         let bucket = bucket_of(item.key);
