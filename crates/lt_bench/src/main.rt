@@ -79,3 +79,6 @@ fn time_memory<R: Clock + Print + AllocGlobal>(rt: &R) -> io::Result<()> {
 fn no_memory(_: NoMemory) -> io::Error {
     io::Error::from(io::ErrorKind::OutOfMemory)
 }
+
+#[cfg(test)]
+mod tests;
