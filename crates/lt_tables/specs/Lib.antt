@@ -3,3 +3,4 @@ pub mod Filter
 pub mod Placement
 pub mod Cut
 pub mod Merge
+pub mod Table
