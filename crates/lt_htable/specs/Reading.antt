@@ -27,18 +27,18 @@ pub record IsNoBucket (shown : Option Image) (block : ℕ) : Type 0 where
   pub read : IsRead shown block page
   pub spells_none : bucket_of page ≡ None
 
--- what the second bucket answers on a key that it was sent
-abbrev pub at_target : ℕ → Option Look → Result (Option Item) LookFault
-at_target block None = Err (Damaged block)
-at_target block (Some (here item)) = Ok (Some item)
-at_target block (Some (moved column)) = Ok None
-at_target block (Some absent) = Ok None
+-- what a bucket's page answers on a key that can be in no other bucket
+abbrev pub at_last : ℕ → Option Look → Result (Option Item) LookFault
+at_last block None = Err (Damaged block)
+at_last block (Some (here item)) = Ok (Some item)
+at_last block (Some (moved column)) = Ok None
+at_last block (Some absent) = Ok None
 
--- what the home bucket answers on a key, and after it the second, where it says that the key was sent there
+-- what the home bucket answers on a key, and after it the second, where the first says that the key was sent there
 abbrev pub at_home : ℕ → ℕ → Option Look → Option Look → Result (Option Item) LookFault
 at_home first home None second = Err (Damaged (first + home))
 at_home first home (Some (here item)) second = Ok (Some item)
-at_home first home (Some (moved column)) second = at_target (first + column) second
+at_home first home (Some (moved column)) second = at_last (first + column) second
 at_home first home (Some absent) second = Ok None
 
 -- this is what the pages of the home bucket and, where that sends the key, of the target answer on it
@@ -54,6 +54,24 @@ abbrev pub AnswersLook : Option Image → ℕ → List ℕ → Result (Option It
 AnswersLook shown first key (Ok found) = IsLookedUp shown first key (Ok (option_map item_of found))
 AnswersLook shown first key (Err Device) = Unit {0}
 AnswersLook shown first key (Err (Damaged block)) = IsLookedUp shown first key (Err (Damaged block))
+
+-- where a key was sent
+abbrev pub target_of : Option Look → Option ℕ
+target_of None = None
+target_of (Some (here item)) = None
+target_of (Some (moved column)) = Some column
+target_of (Some absent) = None
+
+-- the block and the page of the home bucket, or of the target
+abbrev pub IsBlockOf : Option Image → ℕ → ℕ → List ℕ → Option ℕ → ℕ → List ℕ → Type 0
+IsBlockOf shown first column home None block page = (block ≡ first + column) × (page ≡ home)
+IsBlockOf shown first column home (Some target) block page = (block ≡ first + target) × IsRead shown (first + target) page
+
+-- the bucket that answers on a key was read from this block: the home's, or the target's
+pub record IsSought (shown : Option Image) (first : ℕ) (key : List ℕ) (block : ℕ) (page : List ℕ) : Type 0 where
+  pub home : List ℕ
+  pub home_read : IsRead shown (first + home_column key) home
+  pub is : IsBlockOf shown first (home_column key) home (target_of (look_on home key)) block page
 
 -- all items of the 64 buckets, each of them spelled, as their pages were read
 pub record IsScanned (shown : Option Image) (first : ℕ) (items : List Item) : Type 0 where
