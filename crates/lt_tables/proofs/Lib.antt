@@ -1,2 +1,10 @@
 pub mod CutLaws
 pub mod FilterLaws
+pub mod HashLaws
+pub mod RankLaws
+pub mod NewestLaws
+pub mod RankedLaws
+pub mod FitLaws
+pub mod TableLaws
+pub mod PlanLaws
+pub mod LookLaws

@@ -3,3 +3,5 @@ pub mod Filter
 pub mod Placement
 pub mod Cut
 pub mod Merge
+pub mod Alike
+pub mod Table

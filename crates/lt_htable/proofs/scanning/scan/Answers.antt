@@ -1,0 +1,38 @@
+use Rattle.std.proofs.Common.{◌≡◌, ℕ, ◌+◌, ◌++◌, List, refl, sym, ap, subst, ◌∙◌, arith}
+use Rattle.lt_terms.specs.Items.{Item}
+use Rattle.lt_device.specs.State.{State}
+use Rattle.lt_htable.specs.Reading.{IsRead}
+use Rattle.lt_htable.proofs.ScanLaws.{IsScannedTo, scanned-none, scanned-more, scanned-all}
+use Rattle.lt_htable.proofs.scanning.scan.Goals as goal
+
+pub loop-column-init : goal.loop-column-init
+loop-column-init g c =
+    let shown = (g.D.Device.state c.args.device.now).shown in
+    record {
+      scanned = subst (λ (items : List Item). IsScannedTo 0 shown c.args.first items) (sym c.new-items.ensures.items) (scanned-none shown c.args.first);
+      state = refl;
+      size = refl;
+      count = record { later = omega arith; at_most = omega arith };
+      faults = omega arith;
+    }
+
+pub loop-column-preserved : goal.loop-column-preserved
+loop-column-preserved g c =
+    let shown = (g.D.Device.state c.args.device.now).shown in
+    let before = c.loop-column.invariant in
+    let n : ℕ = c.loop-column.column in
+    let page : List ℕ = c.in_ok-bucket.bucket in
+    let read : IsRead shown (c.args.first + n) page = subst (λ (s : State). IsRead s.shown (c.args.first + n) page) before.state c.in_ok-bucket.ensures.read in
+    let items = c.in_ok-push_all.ensures ∙ ap (λ (more : List Item). c.loop-column.items.items ++ more) c.items.ensures.items in
+    record {
+      scanned = subst (λ (items : List Item). IsScannedTo (n + 1) shown c.args.first items) (sym items) (scanned-more n shown c.args.first c.loop-column.items.items page before.scanned read c.in_ok-bucket.ensures.spelled);
+      state = c.read_bucket.ensures.state ∙ before.state;
+      size = c.read_bucket.ensures.size ∙ before.size;
+      count = record { later = omega (arith, before.count.later, c.read_bucket.ensures.count.later); at_most = omega (arith, before.count.later, before.count.at_most, c.read_bucket.ensures.count.later, c.read_bucket.ensures.count.at_most_one) };
+      faults = omega (arith, before.faults, c.read_bucket.ensures.later);
+    }
+
+pub returns-clause-items : goal.returns-clause-items
+returns-clause-items g c =
+    let all : 64 ≡ c.loop-column.column = omega (arith, c.loop-column-test.false, c.loop-column.auto.column-end) in
+    scanned-all _ c.args.first c.loop-column.items.items (subst (λ n. IsScannedTo n (g.D.Device.state c.args.device.now).shown c.args.first c.loop-column.items.items) (sym all) c.loop-column.invariant.scanned)

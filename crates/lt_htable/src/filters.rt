@@ -1,0 +1,33 @@
+//! Reading the filters of a table.
+
+ghost use Rattle.std.specs.Prelude.{◌≡◌, ◌+◌, ◌≤◌, IfOk, IsErrOf};
+ghost use Rattle.lt_terms.specs.Causes.{CountsOne, Rose};
+ghost use Rattle.lt_htable.specs.Reading.{IsRead};
+
+use super::extent::block_in;
+use super::faults::BuildFault;
+use lt_bloom::FilterPage;
+use lt_device::Device;
+use lt_page::Page;
+use std::alloc::Global;
+
+/// The filters of the table whose extent begins at block `first`: one read, of block 64 of the extent.
+pub fn read_filters<D: Device>(
+    alloc: Global,
+    device: &mut D,
+    first: u64,
+) -> Result<FilterPage, BuildFault>
+    requires { first + 65 ≤ D.blocks device.old }
+    ensures filters { IfOk result (IsRead (D.state device.old).shown (first + 64)) }
+
+    // A device that fails is its only fault beside memory.
+    ensures cause { IsErrOf result BuildFault.Device → Rose (D.faults device.old) (D.faults device.new) }
+    ensures later { D.faults device.old ≤ D.faults device.new }
+    ensures state { D.state device.new ≡ D.state device.old }
+    ensures size { D.blocks device.new ≡ D.blocks device.old }
+    ensures count { CountsOne (D.reads device.old) (D.reads device.new) }
+{
+    let mut page = Page::new(alloc)?;
+    device.read(block_in(device, first, 64), &mut page)?;
+    Ok(FilterPage::from_page(page))
+}

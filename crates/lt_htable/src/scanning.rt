@@ -1,0 +1,45 @@
+//! All items of a table.
+
+ghost use Rattle.std.specs.Prelude.{◌≡◌, ℕ, ◌+◌, ◌<◌, ◌≤◌, ◌++◌, IfOk, OnOk, IsErrOf, IsTrue};
+ghost use Rattle.std.specs.List.{list_all};
+ghost use Rattle.lt_terms.specs.Causes.{Rose};
+ghost use Rattle.lt_terms.specs.Items.{is_valid};
+ghost use Rattle.lt_htable.specs.Reading.{IsScanned, IsNoBucket, CountsAtMost};
+
+use super::extent::read_bucket;
+use super::faults::ScanFault;
+use lt_bucket::{Item, Items};
+use lt_device::Device;
+use lt_page::{NoMemory, Page};
+use std::alloc::Global;
+
+/// All items of the table whose extent begins at block `first`, bucket after bucket.
+pub fn scan<D: Device>(alloc: Global, device: &mut D, first: u64) -> Result<Vec<Item>, ScanFault>
+    requires { first + 65 ≤ D.blocks device.old }
+    ensures items { IfOk result (λ items. IsScanned (D.state device.old).shown first items.items) }
+    ensures damaged { (b : ℕ) → IsErrOf result (ScanFault.Damaged b) → (c : ℕ) × (c < 64) × (b ≡ first + c) × IsNoBucket (D.state device.old).shown b }
+    ensures cause { IsErrOf result ScanFault.Device → Rose (D.faults device.old) (D.faults device.new) }
+    ensures later { D.faults device.old ≤ D.faults device.new }
+    ensures state { D.state device.new ≡ D.state device.old }
+    ensures size { D.blocks device.new ≡ D.blocks device.old }
+    ensures count { CountsAtMost 64 (D.reads device.old) (D.reads device.new) }
+{
+    let mut items = Vec::new(alloc);
+    let mut page = Page::new(alloc)?;
+    for column in 0..64u8 {
+        let bucket = read_bucket(device, first, column, &mut page)?;
+        push_all(alloc, &mut items, bucket.items())?;
+    }
+    Ok(items)
+}
+
+/// Copies these items behind the others.
+fn push_all(alloc: Global, all: &mut Vec<Item>, items: Items<'_>) -> Result<(), NoMemory>
+    requires { IsTrue (list_all is_valid items) }
+    ensures { OnOk result (all.new.items ≡ all.old.items ++ items.entry) }
+{
+    for item in items {
+        all.push(Item::copy(alloc, &item)?)?;
+    }
+    Ok(())
+}
