@@ -1,2 +1,5 @@
 pub mod SoughtLaws
 pub mod ScanLaws
+pub mod EntryLaws
+pub mod FillLaws
+pub mod WriteLaws

@@ -1,6 +1,6 @@
 -- The items of a table that is placed are those that were placed.
 use Rattle.std.proofs.Common.{◌≡◌, ℕ, zero, suc, ◌+◌, ◌-◌, ◌<◌, ◌≤◌, refl, sym, ap, subst, ◌∙◌, List, [], ◌∷◌, ◌++◌, length, Bool, true, false, cond, Option, Some, None, arith, eq-eqb, ne_eqb, append-nil, ⊎_elim, lt-ltb, ltb-true}
-use Rattle.std.specs.Prelude.{IsTrue, ◌==◌}
+use Rattle.std.specs.Prelude.{IsTrue, ◌==◌, ◌&&◌, nat_lt}
 use Rattle.std.specs.List.{flat_map, filter, last_or, range_with_len, list_all}
 use Rattle.std.specs.Option.{option_to_list, option_map_or}
 use Rattle.std.proofs.lemmas.Bool.{cases_eq}
@@ -20,7 +20,7 @@ use Rattle.lt_tables.proofs.NewestLaws.{filters_swap, versions_of-newest, newest
 pub record Fits (b : Bucket) : Type 0 where
   pub valid : list_all is_valid b.items ≡ true
   pub small : total_cost b.items ≤ capacity
-  pub target : (s : Sends) → b.sends ≡ Some s → s.target < 64
+  pub sending : option_map_or (λ (s : Sends). nat_lt s.target 64 && nat_lt s.mark 4294967296) b.sends true ≡ true
 
 -- each item lies in one of the 64 columns, and each column's bucket fits
 pub record PlansFit (plans : List ColumnPlan) (items : List Item) : Type 0 where
