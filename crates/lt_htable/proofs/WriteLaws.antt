@@ -1,11 +1,12 @@
 -- Blocks of an extent that are written one after another.
-use Rattle.std.proofs.Common.{◌≡◌, ◌≢◌, ◌⊎◌, inl, inr, ℕ, zero, suc, ◌+◌, ◌<◌, ◌≤◌, refl, sym, ap, subst, ◌∙◌, List, length, Option, Some, None, arith, ⊎_elim}
+use Rattle.std.proofs.Common.{◌≡◌, ◌≢◌, ◌⊎◌, inl, inr, ℕ, zero, suc, ◌+◌, ◌<◌, ◌≤◌, refl, sym, ap, subst, ◌∙◌, List, [], length, Option, Some, None, arith, ⊎_elim}
 use Rattle.std.proofs.lemmas.Bool.{cases_eq}
 use Rattle.lt_terms.specs.Bytes.{Image, block_at}
 use Rattle.lt_terms.specs.Items.{Item}
 use Rattle.lt_device.specs.Image.{SameOutside}
 use Rattle.lt_device.specs.State.{State, IsFit, Wrote, written}
-use Rattle.lt_device.proofs.Steps.{written_is, written_shown, wrote_others, block_at-set_other}
+use Rattle.lt_device.proofs.Steps.{written_is, written_shown, wrote_others}
+use Rattle.std.proofs.lemmas.List.{get_or-set_other}
 use Rattle.lt_tables.specs.declared.ColumnPlan.{ColumnPlan}
 use Rattle.lt_tables.specs.Bucket.{bucket_of}
 use Rattle.lt_tables.specs.Filter.{filter_block}
@@ -21,7 +22,7 @@ left_alone : (b : ℕ) (old new : State) (page : List ℕ) → new ≡ written o
     → (before : Image) × (old.shown ≡ Some before) × ((k : ℕ) → k ≢ b → block_at image k ≡ block_at before k)
 left_alone b old new page is image shown =
     let was = written_is b old new page is image shown in
-    (was.0, was.1, λ k other. ap (λ (i : Image). block_at i k) was.2 ∙ block_at-set_other was.0 b k page other)
+    (was.0, was.1, λ k other. ap (λ (i : Image). block_at i k) was.2 ∙ get_or-set_other was.0 b k page [] other)
 
 -- the buckets that were written before stay
 buckets-stay : (plans : List ColumnPlan) (items : List Item) (first n number : ℕ) (old new : State) (page : List ℕ) → n ≤ number → new ≡ written old (first + number) page
