@@ -3,3 +3,4 @@ pub mod ScanLaws
 pub mod EntryLaws
 pub mod FillLaws
 pub mod WriteLaws
+pub mod PlacedLaws

@@ -80,22 +80,22 @@ option_spread place None within = none_spread place (range_with_len 0 64)
 option_spread place (Some v) within = once (place v) v 0 64 (omega arith) (let h = within v in omega arith)
 
 -- the versions of a key in a placed table: its newest version alone
-pub versions_of-placed : (plans : List ColumnPlan) (items : List Item) (block : ℕ → List ℕ) (key : List ℕ) → PlansFit plans items → ((c : ℕ) → c < 64 → bucket_of (block c) ≡ Some (bucket_in plans items c))
+pub versions_of-placed : (plans : List ColumnPlan) (items : List Item) (block : ℕ → List ℕ) (key : List ℕ) → ((v : Item) → place_of plans v < 64) → ((c : ℕ) → c < 64 → bucket_of (block c) ≡ Some (bucket_in plans items c))
     → versions_of key (table_items block) ≡ option_to_list (newest_of key items)
-versions_of-placed plans items block key fits buckets =
+versions_of-placed plans items block key within buckets =
     ap (versions_of key) (table_items-placed plans items block buckets)
     ∙ versions_spread key (place_of plans) (newest items) columns
     ∙ ap (λ xs. flat_map (λ c. filter (λ v. place_of plans v == c) xs) columns) (versions_of-newest key items)
-    ∙ option_spread (place_of plans) (newest_of key items) fits.within
+    ∙ option_spread (place_of plans) (newest_of key items) within
 
 last_of_option : (o : Option Item) → last_or None (option_to_list o) ≡ o
 last_of_option None = refl
 last_of_option (Some v) = refl
 
 -- A PLACED TABLE holds what was placed
-pub SameNewest-placed : (plans : List ColumnPlan) (items : List Item) (block : ℕ → List ℕ) → PlansFit plans items → ((c : ℕ) → c < 64 → bucket_of (block c) ≡ Some (bucket_in plans items c)) → SameNewest (table_items block) items
-SameNewest-placed plans items block fits buckets = record { each = λ key. ap (last_or None) (versions_of-placed plans items block key fits buckets) ∙ last_of_option (newest_of key items) }
+pub SameNewest-placed : (plans : List ColumnPlan) (items : List Item) (block : ℕ → List ℕ) → ((v : Item) → place_of plans v < 64) → ((c : ℕ) → c < 64 → bucket_of (block c) ≡ Some (bucket_in plans items c)) → SameNewest (table_items block) items
+SameNewest-placed plans items block within buckets = record { each = λ key. ap (last_or None) (versions_of-placed plans items block key within buckets) ∙ last_of_option (newest_of key items) }
 
 -- each key once
-pub HasOnce-placed : (plans : List ColumnPlan) (items : List Item) (block : ℕ → List ℕ) → PlansFit plans items → ((c : ℕ) → c < 64 → bucket_of (block c) ≡ Some (bucket_in plans items c)) → HasOnce (table_items block)
-HasOnce-placed plans items block fits buckets = record { each = λ key. versions_of-placed plans items block key fits buckets ∙ ap option_to_list (sym ((SameNewest-placed plans items block fits buckets).each key)) }
+pub HasOnce-placed : (plans : List ColumnPlan) (items : List Item) (block : ℕ → List ℕ) → ((v : Item) → place_of plans v < 64) → ((c : ℕ) → c < 64 → bucket_of (block c) ≡ Some (bucket_in plans items c)) → HasOnce (table_items block)
+HasOnce-placed plans items block within buckets = record { each = λ key. versions_of-placed plans items block key within buckets ∙ ap option_to_list (sym ((SameNewest-placed plans items block within buckets).each key)) }
