@@ -1,13 +1,11 @@
 -- What the items of a list in rank order ask of their table: entries that may be placed, and buckets that fit.
-use Rattle.std.proofs.Common.{◌≡◌, ℕ, zero, suc, ◌+◌, ◌*◌, ◌<◌, ◌≤◌, refl, sym, ap, subst, ◌∙◌, Bool, true, false, ◌&&◌, cond, List, [], ◌∷◌, ◌++◌, map, length, get_or, Option, Some, None, arith, T, eq-eqb, eqb-true, ltb-true, leb-true, le-leb, ⊎_elim, true≢false}
+use Rattle.std.proofs.Common.{◌≡◌, ℕ, zero, suc, ◌+◌, ◌*◌, ◌<◌, ◌≤◌, refl, sym, ap, subst, ◌∙◌, Bool, true, false, ◌&&◌, cond, List, [], ◌∷◌, map, length, get_or, Option, Some, None, arith, T, eq-eqb, eqb-true, ltb-true, leb-true, le-leb, ⊎_elim, true≢false}
 use Rattle.std.specs.Prelude.{◌==◌, nat_le, nat_lt, is_some}
 use Rattle.std.specs.declared.cmp.Ordering.{Ordering}
 use Rattle.std.specs.declared.cmp.Ordering.TheVariants.{Less, Equal, Greater}
 use Rattle.std.specs.Ordering.{nat_cmp, ordering_then, is_lt}
-use Rattle.std.specs.FinMap.{is_sorted}
 use Rattle.std.specs.FinMap.Entries.{below_all}
-use Rattle.std.specs.List.{AllByRecursion, filter, list_all, range_with_len, sum_by}
-use Rattle.std.specs.Option.{option_map_or}
+use Rattle.std.specs.List.{AllByRecursion, filter, list_all, range_with_len}
 use Rattle.std.proofs.lemmas.Bool.{and_parts, cases_eq}
 use Rattle.std.proofs.lemmas.List.Sums.{sum_by-cons}
 use Rattle.std.proofs.lemmas.List.Elements.{All-from_recursion}
@@ -16,17 +14,16 @@ use Rattle.std.proofs.lemmas.List.{length-map}
 use Rattle.lt_terms.specs.declared.Kind.{Kind}
 use Rattle.lt_terms.specs.declared.Kind.TheVariants.{Put, Delete}
 use Rattle.lt_terms.specs.Items.{Item, is_valid, is_key, item_cost, total_cost, value_limit}
-use Rattle.lt_terms.specs.Hashes.{home_column, key_suffix, rank_cmp, key_hash}
+use Rattle.lt_terms.specs.Hashes.{key_suffix, rank_cmp}
 use Rattle.lt_tables.specs.declared.Entry.{Entry}
 use Rattle.lt_tables.specs.declared.ColumnPlan.{ColumnPlan}
-use Rattle.lt_tables.specs.declared.Sends.{Sends}
 use Rattle.lt_tables.specs.Alike.{is_ranked}
 use Rattle.lt_tables.specs.Bucket.{Bucket, capacity, fits_bucket}
 use Rattle.lt_tables.specs.Merge.{newest}
 use Rattle.lt_tables.specs.Placement.{entry_of, placement_of, has_placement}
 use Rattle.lt_tables.specs.Table.{place_of, bucket_in}
 use Rattle.lt_tables.proofs.HashLaws.{home_column-small}
-use Rattle.lt_tables.proofs.FitLaws.{total, total-le, total-add}
+use Rattle.lt_tables.proofs.FitLaws.{total, total-add}
 use Rattle.lt_tables.proofs.PlanLaws.{placement-fits}
 use Rattle.lt_tables.proofs.RankedLaws.{newest-ranked}
 use Rattle.lt_tables.proofs.TableLaws.{Fits, PlansFit}
@@ -48,6 +45,7 @@ suffix_first a b o h = by_less (nat_lt a b) refl h
     by_equal : (e : Bool) → (a == b) ≡ e → T (is_lt (ordering_then (cond e Equal Greater) o)) → a ≤ b
     by_equal true is h = let same = eqb-true a b is in omega arith
     by_equal false is h = absurd h
+
     by_less : (l : Bool) → nat_lt a b ≡ l → T (is_lt (ordering_then (cond l Less (cond (a == b) Equal Greater)) o)) → a ≤ b
     by_less true is h = let below = ltb-true a b is in omega arith
     by_less false is h = by_equal (a == b) refl h
@@ -114,7 +112,7 @@ few plans items ranked fits =
     let long = long-cost items in
     let all = in_columns (place_of plans) 64 items fits.within in
     let most = at_most (λ c. total (λ v. cond (place_of plans v == c) (item_cost v) 0) items) 4080 0 64 (λ c small.
-      subst (λ n. n ≤ 4080) (ap (λ xs. total_cost (filter (λ v. place_of plans v == c) xs)) ranked ∙ cost-filter (λ v. place_of plans v == c) items) (fits.fit c (omega arith)).small) in
+    subst (λ n. n ≤ 4080) (ap (λ xs. total_cost (filter (λ v. place_of plans v == c) xs)) ranked ∙ cost-filter (λ v. place_of plans v == c) items) (fits.fit c (omega arith)).small) in
     omega arith
 
 -- ---- what the placement asks

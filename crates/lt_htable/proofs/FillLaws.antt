@@ -1,9 +1,8 @@
 -- Items that go into a bucket one after another, and filters that grow item by item.
-use Rattle.std.proofs.Common.{◌≡◌, ℕ, zero, suc, ◌+◌, ◌<◌, ◌≤◌, refl, sym, ap, subst, ◌∙◌, Bool, true, false, ◌&&◌, cond, List, [], ◌∷◌, ◌++◌, length, take, get_or, Option, Some, arith, leb-true}
+use Rattle.std.proofs.Common.{◌≡◌, ℕ, zero, suc, ◌+◌, ◌<◌, ◌≤◌, refl, sym, ap, subst, ◌∙◌, Bool, true, false, ◌&&◌, cond, List, [], ◌∷◌, ◌++◌, length, take, get_or, arith, leb-true}
 use Rattle.std.specs.Prelude.{◌==◌, nat_le, nat_lt}
 use Rattle.std.specs.Option.{option_map_or}
-use Rattle.std.specs.List.{All, filter, list_all, AllByRecursion}
-use Rattle.std.proofs.lemmas.Bool.{and_parts}
+use Rattle.std.specs.List.{filter, list_all}
 use Rattle.std.proofs.lemmas.List.{take_more}
 use Rattle.std.proofs.lemmas.List.Sums.{sum_by-cons}
 use Rattle.std.proofs.lemmas.List.Elements.{All-from_recursion}
@@ -80,7 +79,7 @@ pub filters-more : (items : List Item) (i : ℕ) (item : Item) (old new : List �
     → HasFilters (take i items) old → AddsPositions old new p.column q.positions → HasFilters (take (i + 1) items) new
 filters-more items i item old new p q below is p_is q_is has adds =
     let at_home : AddsPositions old new (home_column item.key) (key_positions item.key) =
-      subst (λ c. AddsPositions old new c (key_positions item.key)) (ap (λ (p : Parts). p.column) p_is ∙ column_of-parts item.key)
-      (subst (λ ps. AddsPositions old new p.column ps) (ap (λ (q : Parts). q.positions) q_is ∙ positions_of-parts item.key) adds) in
+    subst (λ c. AddsPositions old new c (key_positions item.key)) (ap (λ (p : Parts). p.column) p_is ∙ column_of-parts item.key)
+    (subst (λ ps. AddsPositions old new p.column ps) (ap (λ (q : Parts). q.positions) q_is ∙ positions_of-parts item.key) adds) in
     let more : take i items ++ item ∷ [] ≡ take (i + 1) items = ap (λ v. take i items ++ v ∷ []) is ∙ sym (take_more items i item below) in
     subst (λ xs. HasFilters xs new) more (HasFilters-more (take i items) item old new has at_home)

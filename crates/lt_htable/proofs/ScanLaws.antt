@@ -1,5 +1,5 @@
 -- A table, scanned column after column.
-use Rattle.std.proofs.Common.{◌≡◌, ℕ, zero, suc, ◌+◌, ◌<◌, ◌≤◌, refl, sym, ap, subst, ◌∙◌, Bool, true, false, cond, List, [], ◌∷◌, ◌++◌, Option, Some, None, arith, append_assoc, append-nil, ⊎_elim, eq-eqb, ne_eqb}
+use Rattle.std.proofs.Common.{◌≡◌, ℕ, zero, suc, ◌+◌, ◌<◌, refl, sym, ap, subst, ◌∙◌, cond, List, [], ◌++◌, Option, arith, append_assoc, append-nil, ⊎_elim, eq-eqb, ne_eqb}
 use Rattle.std.specs.Prelude.{IsTrue, is_some, ◌==◌}
 use Rattle.std.specs.List.{flat_map, range_with_len}
 use Rattle.std.proofs.lemmas.Bool.{cases_eq}
@@ -54,9 +54,9 @@ scanned-more n shown first items page before read spelled =
       read = λ c small. each (λ c (p : List ℕ). IsRead shown (first + c) p) before.read read c small;
       spelled = λ c small. each (λ c (p : List ℕ). IsTrue (is_some (bucket_of p))) before.spelled spelled c small;
       is = ap (λ xs. xs ++ items_on page) (before.is ∙ flat_map-range (λ c. items_on (before.block c)) (λ c. items_on (block c)) 0 n (λ c small. ap items_on (sym (at_other before.block n page c (omega arith)))))
-        ∙ ap (λ p. flat_map (λ c. items_on (block c)) (range_with_len 0 n) ++ items_on p) (sym (at_same before.block n page))
-        ∙ (let z : n ≡ 0 + n = omega arith in ap (λ k. flat_map (λ c. items_on (block c)) (range_with_len 0 n) ++ items_on (block k)) z)
-        ∙ sym (flat_map-last (λ c. items_on (block c)) 0 n);
+          ∙ ap (λ p. flat_map (λ c. items_on (block c)) (range_with_len 0 n) ++ items_on p) (sym (at_same before.block n page))
+          ∙ (let z : n ≡ 0 + n = omega arith in ap (λ k. flat_map (λ c. items_on (block c)) (range_with_len 0 n) ++ items_on (block k)) z)
+          ∙ sym (flat_map-last (λ c. items_on (block c)) 0 n);
     }
   where
     each : (P : ℕ → List ℕ → Type 0) → ((c : ℕ) → c < n → P c (before.block c)) → P n page → (c : ℕ) → c < n + 1 → P c (with_page before.block n page c)

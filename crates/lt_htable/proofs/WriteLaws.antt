@@ -1,9 +1,8 @@
 -- Blocks of an extent that are written one after another.
-use Rattle.std.proofs.Common.{◌≡◌, ◌≢◌, ◌⊎◌, inl, inr, ℕ, zero, suc, ◌+◌, ◌<◌, ◌≤◌, refl, sym, ap, subst, ◌∙◌, List, [], length, Option, Some, None, arith, ⊎_elim}
+use Rattle.std.proofs.Common.{◌≡◌, ◌≢◌, ℕ, ◌+◌, ◌<◌, ◌≤◌, refl, sym, ap, subst, ◌∙◌, List, [], Option, Some, arith, ⊎_elim}
 use Rattle.std.proofs.lemmas.Bool.{cases_eq}
 use Rattle.lt_terms.specs.Bytes.{Image, block_at}
 use Rattle.lt_terms.specs.Items.{Item}
-use Rattle.lt_device.specs.Image.{SameOutside}
 use Rattle.lt_device.specs.State.{State, IsFit, Wrote, written}
 use Rattle.lt_device.proofs.Steps.{written_is, written_shown, wrote_others}
 use Rattle.std.proofs.lemmas.List.{get_or-set_other}
@@ -12,7 +11,7 @@ use Rattle.lt_tables.specs.Bucket.{bucket_of}
 use Rattle.lt_tables.specs.Filter.{filter_block}
 use Rattle.lt_tables.specs.Placement.{placement_of}
 use Rattle.lt_tables.specs.Table.{blocks_from, bucket_in, IsPlaced}
-use Rattle.lt_htable.specs.Building.{HasBuckets, InExtent, ShowsSameOutside}
+use Rattle.lt_htable.specs.Building.{HasBuckets, ShowsSameOutside}
 
 pub no_buckets : (plans : List ColumnPlan) (items : List Item) (first : ℕ) (shown : Option Image) → HasBuckets plans items first 0 shown
 no_buckets plans items first shown = record { each = λ image is c small. absurd (omega arith) }
@@ -29,9 +28,9 @@ buckets-stay : (plans : List ColumnPlan) (items : List Item) (first n number : �
     → HasBuckets plans items first n old.shown → HasBuckets plans items first n new.shown
 buckets-stay plans items first n number old new page high is has = record {
   each = λ image shown c small.
-    let was = left_alone (first + number) old new page is image shown in
-    let other : first + c ≢ first + number = omega arith in
-    ap bucket_of (was.2 (first + c) other) ∙ has.each was.0 was.1 c small;
+      let was = left_alone (first + number) old new page is image shown in
+      let other : first + c ≢ first + number = omega arith in
+      ap bucket_of (was.2 (first + c) other) ∙ has.each was.0 was.1 c small;
 }
 
 -- one bucket more
@@ -42,10 +41,10 @@ buckets-more plans items first n blocks b old new page at below fit is spelled h
     let stay = buckets-stay plans items first n n old new page (omega arith) is_there has in
     record {
       each = λ image shown c small. ⊎_elim
-        (λ (same : c ≡ n). subst (λ k. bucket_of (blocks_from image first k) ≡ Some (bucket_in plans items k)) (sym same)
+          (λ (same : c ≡ n). subst (λ k. bucket_of (blocks_from image first k) ≡ Some (bucket_in plans items k)) (sym same)
           (ap bucket_of (written_shown blocks (first + n) old new page fit (omega arith) is_there image shown) ∙ spelled))
-        (λ (other : c ≡ n → ⊥). let lower : c < n = omega arith in stay.each image shown c lower)
-        (cases_eq c n);
+          (λ (other : c ≡ n → ⊥). let lower : c < n = omega arith in stay.each image shown c lower)
+          (cases_eq c n);
     }
 
 -- with its filters the table is whole
@@ -67,12 +66,15 @@ shows-same inside shown = record { each = λ before is. (before, is, record { si
 pub shows-more : {inside : ℕ → Type 0} {n b : ℕ} {start : Option Image} {old new : State} → Wrote n b old new → ShowsSameOutside inside start old.shown → inside b → ShowsSameOutside inside start new.shown
 shows-more {inside} {n} {b} {start} {old} {new} wrote so_far within = record {
   each = λ before is.
-    let was = so_far.each before is in
-    let now = wrote_others n b old new was.0 wrote was.1 in
-    (now.0, now.1, record {
-      size = now.2.size ∙ was.2.size;
-      others = λ k out. now.2.others k (λ same. out (subst inside (sym same) within)) ∙ was.2.others k out;
-    });
+      let was = so_far.each before is in
+      let now = wrote_others n b old new was.0 wrote was.1 in (
+        now.0,
+        now.1,
+        record {
+          size = now.2.size ∙ was.2.size;
+          others = λ k out. now.2.others k (λ same. out (subst inside (sym same) within)) ∙ was.2.others k out;
+        },
+      );
 }
 
 pub same_past : {n b : ℕ} {old new : State} → Wrote n b old new → new.past ≡ old.past

@@ -18,11 +18,7 @@ use lt_page::{NoMemory, Page};
 use std::alloc::Global;
 
 /// All items of the table whose extent begins at block `first`, bucket after bucket.
-pub fn scan<D: Device>(
-    alloc: Global,
-    device: &mut D,
-    first: u64,
-) -> Result<Vec<Item>, ScanFault>
+pub fn scan<D: Device>(alloc: Global, device: &mut D, first: u64) -> Result<Vec<Item>, ScanFault>
     requires { first + 65 ≤ D.blocks device.old }
     ensures items { IfOk result (λ items. IsScanned (D.state device.old).shown first items.items) }
     ensures shown { IfOk result (λ items. (image : Image) → (D.state device.old).shown ≡ Some image → items.items ≡ table_items (blocks_from image first)) }

@@ -1,4 +1,4 @@
-use Rattle.std.proofs.Common.{◌≡◌, ℕ, ◌<◌, subst, sym, ◌∙◌, List, arith}
+use Rattle.std.proofs.Common.{◌≡◌, ℕ, ◌<◌, subst, ◌∙◌, List, arith}
 use Rattle.lt_device.specs.State.{State, written}
 use Rattle.lt_terms.specs.Items.{Item}
 use Rattle.lt_device.proofs.Runs.{confined_writes}

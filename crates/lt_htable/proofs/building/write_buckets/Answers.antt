@@ -1,4 +1,4 @@
-use Rattle.std.proofs.Common.{◌≡◌, ℕ, ◌<◌, ◌∙◌, List, arith}
+use Rattle.std.proofs.Common.{ℕ, ◌<◌, ◌∙◌, arith}
 use Rattle.lt_device.proofs.Runs.{confined_writes}
 use Rattle.lt_htable.specs.Building.{InExtent}
 use Rattle.lt_htable.proofs.WriteLaws.{buckets-more, shows-more, same_past}
