@@ -1,2 +1,6 @@
 pub mod SoughtLaws
 pub mod ScanLaws
+pub mod EntryLaws
+pub mod FillLaws
+pub mod WriteLaws
+pub mod PlacedLaws

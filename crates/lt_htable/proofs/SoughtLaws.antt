@@ -1,19 +1,19 @@
 -- What the bucket that was sought answers on a key.
-use Rattle.std.proofs.Common.{◌≡◌, ℕ, ◌+◌, ◌<◌, refl, sym, ap, subst, ◌∙◌, Bool, true, false, ◌&&◌, cond, List, Option, Some, None, Result, Ok, Err, ltb-true, true≢false}
-use Rattle.std.specs.Prelude.{is_some, nat_lt, nat_le, ◌==◌, slice_index, slice_range}
-use Rattle.std.specs.Option.{option_and_then, option_map, ForSome}
+use Rattle.std.proofs.Common.{◌≡◌, ℕ, ◌<◌, refl, sym, ap, subst, ◌∙◌, Bool, true, false, ◌&&◌, cond, List, Option, Some, None, Err, ltb-true, true≢false}
+use Rattle.std.specs.Prelude.{is_some, nat_lt, nat_le, ◌==◌, slice_index}
+use Rattle.std.specs.Option.{option_and_then, option_map}
 use Rattle.std.proofs.lemmas.Bool.{and_parts}
 use Rattle.std.proofs.lemmas.Option.{none-some}
-use Rattle.lt_terms.specs.Bytes.{Image, u16_at, u32_at, all_zero}
+use Rattle.lt_terms.specs.Bytes.{Image, u32_at}
 use Rattle.lt_terms.specs.Hashes.{home_column, key_suffix}
-use Rattle.lt_terms.specs.Items.{Item, items_of}
+use Rattle.lt_terms.specs.Items.{Item}
 use Rattle.lt_item.specs.declared.hash.Parts.{Parts}
 use Rattle.lt_item.specs.Parts.{parts_of}
 use Rattle.lt_tables.specs.declared.Sends.{Sends}
 use Rattle.lt_tables.specs.Bucket.{Bucket, Look, here, moved, absent, look_of, look_in_1, look_on, sent_to, sends_of, bucket_of_page_1}
 use Rattle.lt_tables.proofs.HashLaws.{home_column-small}
 use Rattle.lt_htable.specs.declared.faults.LookFault.TheVariants.{Damaged}
-use Rattle.lt_htable.specs.Reading.{IsRead, IsBlockOf, IsSought, IsLookedUp, at_last, at_home, target_of}
+use Rattle.lt_htable.specs.Reading.{IsBlockOf, IsSought, IsLookedUp, at_last, at_home, target_of}
 
 -- the column among the parts of a key
 pub column-is : (parts : Parts) (key : List ℕ) → parts ≡ parts_of key → parts.column ≡ home_column key

@@ -1,12 +1,17 @@
 //! Tables on the device: 64 buckets and a block of filters, written once and then only read.
 #![tactic(auto)]
 
+mod building;
 mod extent;
 mod faults;
+mod filling;
 mod filters;
 mod lookup;
+mod placing;
 mod scanning;
+mod summary;
 
+pub use building::build;
 pub use faults::{BuildFault, LookFault, ScanFault};
 pub use filters::read_filters;
 pub use lookup::look;

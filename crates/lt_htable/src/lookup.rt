@@ -1,10 +1,14 @@
 //! Looking a key up in a table.
 
-ghost use Rattle.std.specs.Prelude.{◌≡◌, ℕ, ◌+◌, ◌<◌, ◌≤◌, Some, Ok, IfOk, IfErr, IsErr, IsErrOf};
+ghost use Rattle.std.specs.Prelude.{◌≡◌, ℕ, ◌+◌, ◌<◌, ◌≤◌, List, Some, Ok, MatchResult, IfOk, IfErr, IsErr, IsErrOf};
 ghost use Rattle.std.specs.Option.{ForSome, option_map};
+ghost use Rattle.lt_terms.specs.Bytes.{Image};
 ghost use Rattle.lt_terms.specs.Causes.{Rose};
+ghost use Rattle.lt_terms.specs.Items as terms;
 ghost use Rattle.lt_item.specs.Views.{item_of};
 ghost use Rattle.lt_tables.specs.Bucket.{look_on};
+ghost use Rattle.lt_tables.specs.Merge.{newest_of};
+ghost use Rattle.lt_tables.specs.Table.{blocks_from, IsPlaced};
 ghost use Rattle.lt_bucket.specs.Looks.{look_of};
 ghost use Rattle.lt_item.specs.Parts.{parts_of};
 ghost use Rattle.lt_htable.specs.Reading.{AnswersLook, CountsAtMost, IsSought, at_last, target_of};
@@ -29,6 +33,11 @@ pub fn look<'p, D: Device>(
     requires within { first + 65 ≤ D.blocks device.old }
     requires parts { parts.now ≡ parts_of key.now }
     ensures answer { AnswersLook (D.state device.old).shown first key.now result }
+
+    // On the table of some items it is theirs, and no block is damaged.
+    ensures placed { (image : Image) (items : List terms.Item) → (D.state device.old).shown ≡ Some image → IsPlaced items (blocks_from image first)
+        → MatchResult result (λ found. option_map item_of found ≡ newest_of key.now items) (λ fault. fault ≡ LookFault.Device) }
+
     ensures cause { IsErrOf result LookFault.Device → Rose (D.faults device.old) (D.faults device.new) }
     ensures later { D.faults device.old ≤ D.faults device.new }
     ensures state { D.state device.new ≡ D.state device.old }

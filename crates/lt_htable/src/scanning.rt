@@ -1,9 +1,13 @@
 //! All items of a table.
 
-ghost use Rattle.std.specs.Prelude.{◌≡◌, ℕ, ◌+◌, ◌<◌, ◌≤◌, ◌++◌, IfOk, OnOk, IsErrOf, IsTrue};
+ghost use Rattle.std.specs.Prelude.{◌≡◌, ℕ, ◌+◌, ◌<◌, ◌≤◌, ◌++◌, List, Some, IfOk, OnOk, IsErrOf, IsTrue};
 ghost use Rattle.std.specs.List.{list_all};
 ghost use Rattle.lt_terms.specs.Causes.{Rose};
+ghost use Rattle.lt_terms.specs.Bytes.{Image};
+ghost use Rattle.lt_terms.specs.Items as terms;
 ghost use Rattle.lt_terms.specs.Items.{is_valid};
+ghost use Rattle.lt_tables.specs.Alike.{HasOnce, SameNewest};
+ghost use Rattle.lt_tables.specs.Table.{blocks_from, IsPlaced, table_items};
 ghost use Rattle.lt_htable.specs.Reading.{IsScanned, IsNoBucket, CountsAtMost};
 
 use super::extent::read_bucket;
@@ -17,6 +21,12 @@ use std::alloc::Global;
 pub fn scan<D: Device>(alloc: Global, device: &mut D, first: u64) -> Result<Vec<Item>, ScanFault>
     requires { first + 65 ≤ D.blocks device.old }
     ensures items { IfOk result (λ items. IsScanned (D.state device.old).shown first items.items) }
+    ensures shown { IfOk result (λ items. (image : Image) → (D.state device.old).shown ≡ Some image → items.items ≡ table_items (blocks_from image first)) }
+
+    // On the table of some items these are theirs, each key once.
+    ensures placed { IfOk result (λ found. (image : Image) (items : List terms.Item) → (D.state device.old).shown ≡ Some image → IsPlaced items (blocks_from image first)
+        → SameNewest found.items items × HasOnce found.items) }
+
     ensures damaged { (b : ℕ) → IsErrOf result (ScanFault.Damaged b) → (c : ℕ) × (c < 64) × (b ≡ first + c) × IsNoBucket (D.state device.old).shown b }
     ensures cause { IsErrOf result ScanFault.Device → Rose (D.faults device.old) (D.faults device.new) }
     ensures later { D.faults device.old ≤ D.faults device.new }

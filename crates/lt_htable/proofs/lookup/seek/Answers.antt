@@ -1,4 +1,4 @@
-use Rattle.std.proofs.Common.{◌≡◌, ℕ, ◌+◌, ◌<◌, List, refl, ap, subst, ◌∙◌, arith}
+use Rattle.std.proofs.Common.{◌≡◌, ℕ, ◌+◌, List, refl, ap, subst, ◌∙◌, arith}
 use Rattle.lt_device.specs.State.{State}
 use Rattle.lt_terms.specs.Hashes.{home_column}
 use Rattle.lt_htable.specs.Reading.{IsRead, IsBlockOf}

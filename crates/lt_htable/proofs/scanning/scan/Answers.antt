@@ -2,6 +2,8 @@ use Rattle.std.proofs.Common.{◌≡◌, ℕ, ◌+◌, ◌++◌, List, refl, sym
 use Rattle.lt_terms.specs.Items.{Item}
 use Rattle.lt_device.specs.State.{State}
 use Rattle.lt_htable.specs.Reading.{IsRead}
+use Rattle.lt_tables.specs.Alike.{SameNewest, HasOnce}
+use Rattle.lt_htable.proofs.PlacedLaws.{scanned-told, scanned-placed}
 use Rattle.lt_htable.proofs.ScanLaws.{IsScannedTo, scanned-none, scanned-more, scanned-all}
 use Rattle.lt_htable.proofs.scanning.scan.Goals as goal
 
@@ -36,3 +38,11 @@ pub returns-clause-items : goal.returns-clause-items
 returns-clause-items g c =
     let all : 64 ≡ c.loop-column.column = omega (arith, c.loop-column-test.false, c.loop-column.auto.column-end) in
     scanned-all _ c.args.first c.loop-column.items.items (subst (λ n. IsScannedTo n (g.D.Device.state c.args.device.now).shown c.args.first c.loop-column.items.items) (sym all) c.loop-column.invariant.scanned)
+
+pub returns-clause-shown : goal.returns-clause-shown
+returns-clause-shown g c = λ image told. scanned-told image (g.D.Device.state c.args.device.now).shown c.args.first c.loop-column.items.items told (returns-clause-items g c)
+
+pub returns-clause-placed : goal.returns-clause-placed
+returns-clause-placed g c = λ image items told placed.
+    subst (λ (found : List Item). SameNewest found items × HasOnce found) (sym (scanned-told image (g.D.Device.state c.args.device.now).shown c.args.first c.loop-column.items.items told (returns-clause-items g c)))
+    (scanned-placed image c.args.first items placed)

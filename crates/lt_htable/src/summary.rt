@@ -1,0 +1,52 @@
+//! What a list of items asks of its table: its entries and its filters.
+
+ghost use Rattle.std.specs.Prelude.{◌≡◌, IfOk, IsTrue, map};
+ghost use Rattle.std.specs.List.{list_all};
+ghost use Rattle.lt_terms.specs.Items.{is_valid};
+ghost use Rattle.lt_tables.specs.Filter.{filter_block};
+ghost use Rattle.lt_tables.specs.Placement.{entry_of};
+
+use lt_balance::Entry;
+use lt_bloom::FilterPage;
+use lt_bucket::Item;
+use lt_item::cost;
+use lt_page::{NoMemory, Page};
+use std::alloc::Global;
+
+/// The filters of a table of these items.
+pub(super) fn filters_of(alloc: Global, items: &[Item]) -> Result<FilterPage, NoMemory>
+    ensures { IfOk result (λ filters. filters ≡ filter_block items.now) }
+{
+    let mut filters = FilterPage::new(alloc)?;
+    for item in items {
+        filters.add(item.parts().column, item.parts());
+    }
+    let len = filters.page().bytes().len();
+    prove!(len == Page::LEN);
+    Ok(filters)
+}
+
+/// What the placement asks of these items.
+pub(super) fn entries_of(alloc: Global, items: &[Item]) -> Result<Vec<Entry>, NoMemory>
+    ensures entries { IfOk result (λ entries. entries.items ≡ map entry_of items.now) }
+    ensures valid { IfOk result (λ _. IsTrue (list_all is_valid items.now)) }
+{
+    let mut entries = Vec::with_capacity(alloc, items.len())?;
+    for item in items {
+        entries.push(entry_of(item))?;
+    }
+    Ok(entries)
+}
+
+#[tactic(auto, unfolding(lt_item::specs::Parts::parts_of))]
+fn entry_of(item: &Item) -> Entry
+    ensures entry { result ≡ entry_of item.now }
+    ensures valid { IsTrue (is_valid item.now) }
+{
+    let parts = item.parts();
+    Entry {
+        column: parts.column,
+        suffix: parts.suffix,
+        cost: cost(&item.view()),
+    }
+}
