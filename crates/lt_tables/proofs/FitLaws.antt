@@ -20,7 +20,7 @@ use Rattle.lt_tables.specs.Table.{place_of}
 
 -- ---- sums by recursion
 
-abbrev pub total : {A : Type 0} → (A → ℕ) → List A → ℕ
+abbrev total : {A : Type 0} → (A → ℕ) → List A → ℕ
 total f [] = 0
 total f (x ∷ xs) = f x + total f xs
 
@@ -28,11 +28,11 @@ sum_total : {A : Type 0} (f : A → ℕ) (xs : List A) → sum_by f xs ≡ total
 sum_total f [] = refl
 sum_total f (x ∷ xs) = sum_by-cons f x xs ∙ ap (λ n. f x + n) (sum_total f xs)
 
-pub total-le : {A : Type 0} (f g : A → ℕ) (xs : List A) → ((x : A) → f x ≤ g x) → total f xs ≤ total g xs
+total-le : {A : Type 0} (f g : A → ℕ) (xs : List A) → ((x : A) → f x ≤ g x) → total f xs ≤ total g xs
 total-le f g [] h = omega arith
 total-le f g (x ∷ xs) h = let a = h x in let b = total-le f g xs h in omega arith
 
-pub total-add : {A : Type 0} (f g : A → ℕ) (xs : List A) → total (λ x. f x + g x) xs ≡ total f xs + total g xs
+total-add : {A : Type 0} (f g : A → ℕ) (xs : List A) → total (λ x. f x + g x) xs ≡ total f xs + total g xs
 total-add f g [] = refl
 total-add f g (x ∷ xs) = let h = total-add f g xs in omega arith
 

@@ -111,17 +111,9 @@ place_small : (b : Bool) (plan : ColumnPlan) (home : ℕ) → IsPlan plan → ho
 place_small true plan home p h = p.target
 place_small false plan home p h = h
 
-sends_fine : (b : Bool) (plan : ColumnPlan) → IsPlan plan → option_map_or (λ (s : Sends). nat_lt s.target 64 && nat_lt s.mark 4294967296) (cond b (Some (record { target = plan.target; mark = plan.mark })) None) true ≡ true
-sends_fine true plan p = ap (λ b. b && nat_lt plan.mark 4294967296) (lt-ltb plan.target 64 p.target) ∙ lt-ltb plan.mark 4294967296 p.mark
-sends_fine false plan p = refl
-
--- each item of a placed table lies in one of its columns
-pub placement-within : (items : List Item) (plans : List ColumnPlan) → placement_of items ≡ Some plans → (v : Item) → place_of plans v < 64
-placement-within items plans placed v =
-    let es : List Entry = map entry_of items in
-    let h = placement-sendings items plans placed in
-    let m : Made es h.made = sendings-made es (senders es) [] h.made h.sent (no_made es) in
-    subst (λ ps. place_of ps v < 64) (sym h.plans_are) (place_small _ (plan_at (plans_of es h.made) (home_column v.key)) (home_column v.key) (plan-is items h.made (home_column v.key) m) (home_column-small v.key))
+sends_fine : (b : Bool) (plan : ColumnPlan) → IsPlan plan → (s : Sends) → cond b (Some (record { target = plan.target; mark = plan.mark })) None ≡ Some s → s.target < 64
+sends_fine true plan p s h = let same : record { target = plan.target; mark = plan.mark } ≡ s = cc in subst (λ (s : Sends). s.target < 64) same p.target
+sends_fine false plan p s h = absurd (none-some s h)
 
 -- THE PLACEMENT of valid items in rank order: each bucket fits
 pub placement-fits : (items : List Item) (plans : List ColumnPlan) → placement_of items ≡ Some plans → newest items ≡ items → list_all is_valid items ≡ true → PlansFit plans items
@@ -134,6 +126,6 @@ placement-fits items plans placed ranked valid =
       fit = λ c small. record {
         valid = ap (λ xs. list_all is_valid (filter (λ v. place_of (plans_of es h.made) v == c) xs)) ranked ∙ valid_filter (λ v. place_of (plans_of es h.made) v == c) items valid;
         small = subst (λ n. n ≤ capacity) (sym (ap (λ xs. total_cost (filter (λ v. place_of (plans_of es h.made) v == c) xs)) ranked ∙ items_cost (λ (e : Entry). lies (plan_at (plans_of es h.made) e.column) e == c) items)) (column-fits es h.made c h.sent small);
-        sending = sends_fine (plan_at (plans_of es h.made) c).sends (plan_at (plans_of es h.made) c) (plan-is items h.made c m);
+        target = sends_fine (plan_at (plans_of es h.made) c).sends (plan_at (plans_of es h.made) c) (plan-is items h.made c m);
       };
     })
