@@ -22,11 +22,11 @@ use Rattle.lt_tables.specs.Bucket.{Bucket, capacity, fits_bucket}
 use Rattle.lt_tables.specs.Merge.{newest}
 use Rattle.lt_tables.specs.Placement.{entry_of, placement_of, has_placement}
 use Rattle.lt_tables.specs.Table.{place_of, bucket_in}
-use Rattle.lt_htable.proofs.HashLaws.{home_column-small}
-use Rattle.lt_htable.proofs.FitLaws.{total, total-add}
-use Rattle.lt_htable.proofs.PlanLaws.{placement-fits}
+use Rattle.lt_tables.proofs.HashLaws.{home_column-small}
+use Rattle.lt_tables.proofs.FitLaws.{total, total-add}
+use Rattle.lt_tables.proofs.PlanLaws.{placement-fits}
 use Rattle.lt_tables.proofs.RankedLaws.{newest-ranked}
-use Rattle.lt_htable.proofs.TableLaws.{Fits, PlansFit}
+use Rattle.lt_tables.proofs.TableLaws.{Fits, PlansFit}
 use Rattle.lt_balance.specs.Entries.{AreEntries}
 
 first : (a b : Bool) → T (a && b) → T a

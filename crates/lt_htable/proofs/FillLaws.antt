@@ -17,7 +17,7 @@ use Rattle.lt_tables.specs.Filter.{AddsPositions, HasFilters}
 use Rattle.lt_tables.specs.Merge.{newest}
 use Rattle.lt_tables.specs.Table.{bucket_in, place_of}
 use Rattle.lt_tables.proofs.FilterLaws.{HasFilters-more}
-use Rattle.lt_htable.proofs.HashLaws.{home_column-small, digits-small, positions-small}
+use Rattle.lt_tables.proofs.HashLaws.{home_column-small, digits-small, positions-small}
 
 -- ---- costs
 

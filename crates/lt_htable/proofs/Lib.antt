@@ -4,7 +4,3 @@ pub mod EntryLaws
 pub mod FillLaws
 pub mod WriteLaws
 pub mod PlacedLaws
-pub mod HashLaws
-pub mod FitLaws
-pub mod TableLaws
-pub mod PlanLaws

@@ -11,10 +11,10 @@ use Rattle.lt_tables.specs.Bucket.{Look, moved, absent, look_of, look_on, items_
 use Rattle.lt_tables.specs.Merge.{newest_of}
 use Rattle.lt_tables.specs.Placement.{plan_at, columns}
 use Rattle.lt_tables.specs.Table.{blocks_from, IsPlaced, table_items}
-use Rattle.lt_htable.proofs.HashLaws.{home_column-small}
+use Rattle.lt_tables.proofs.HashLaws.{home_column-small}
 use Rattle.lt_tables.proofs.LookLaws.{place_key, look_on-placed, sent_where}
-use Rattle.lt_htable.proofs.PlanLaws.{placement-within}
-use Rattle.lt_htable.proofs.TableLaws.{flat_map-range, SameNewest-placed, HasOnce-placed}
+use Rattle.lt_tables.proofs.PlanLaws.{placement-within}
+use Rattle.lt_tables.proofs.TableLaws.{flat_map-range, SameNewest-placed, HasOnce-placed}
 use Rattle.lt_htable.specs.declared.faults.LookFault.{LookFault}
 use Rattle.lt_htable.specs.Reading.{IsLookedUp, IsScanned, at_last, at_home}
 

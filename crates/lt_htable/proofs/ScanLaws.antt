@@ -7,7 +7,7 @@ use Rattle.lt_terms.specs.Bytes.{Image}
 use Rattle.lt_terms.specs.Items.{Item}
 use Rattle.lt_tables.specs.Bucket.{bucket_of, items_on}
 use Rattle.lt_tables.specs.Placement.{columns}
-use Rattle.lt_htable.proofs.TableLaws.{flat_map-range}
+use Rattle.lt_tables.proofs.TableLaws.{flat_map-range}
 use Rattle.lt_htable.specs.Reading.{IsRead, IsScanned}
 
 -- the items of the first n columns

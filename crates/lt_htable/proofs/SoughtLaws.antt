@@ -11,7 +11,7 @@ use Rattle.lt_item.specs.declared.hash.Parts.{Parts}
 use Rattle.lt_item.specs.Parts.{parts_of}
 use Rattle.lt_tables.specs.declared.Sends.{Sends}
 use Rattle.lt_tables.specs.Bucket.{Bucket, Look, here, moved, absent, look_of, look_in_1, look_on, sent_to, sends_of, bucket_of_page_1}
-use Rattle.lt_htable.proofs.HashLaws.{home_column-small}
+use Rattle.lt_tables.proofs.HashLaws.{home_column-small}
 use Rattle.lt_htable.specs.declared.faults.LookFault.TheVariants.{Damaged}
 use Rattle.lt_htable.specs.Reading.{IsBlockOf, IsSought, IsLookedUp, at_last, at_home, target_of}
 

@@ -1,26 +1,23 @@
 -- A placement fills no bucket past its capacity.
-use Rattle.std.proofs.Common.{◌≡◌, ℕ, zero, suc, ◌+◌, ◌-◌, ◌<◌, ◌≤◌, max, refl, sym, ap, subst, ◌∙◌, List, [], ◌∷◌, ◌++◌, map, length, Bool, true, false, not, ◌&&◌, cond, Option, Some, None, arith, T, leb-true, leb-false, le-leb, lt-ltb, le-ltb, ltb-true, ltb-false, eqb-true, eq-eqb, ne_eqb, true≢false, inl, inr, ⊎_elim}
-use Rattle.std.specs.Prelude.{IsTrue, ◌==◌, nat_le, nat_lt, ◌⊎◌}
+use Rattle.std.proofs.Common.{◌≡◌, ℕ, zero, suc, ◌+◌, ◌-◌, ◌<◌, ◌≤◌, max, refl, sym, ap, subst, ◌∙◌, List, [], ◌∷◌, ◌++◌, map, Bool, true, false, ◌&&◌, cond, Option, Some, None, arith, leb-true, leb-false, lt-ltb, le-ltb, eqb-true, eq-eqb, ne_eqb, true≢false, inl, inr, ⊎_elim}
+use Rattle.std.specs.Prelude.{◌==◌, nat_le, nat_lt, ◌⊎◌}
 use Rattle.std.specs.List.{filter, find, sum_by, fold, range_with_len, AllByRecursion}
-use Rattle.std.specs.Option.{option_and_then, option_map, option_map_or, is_some, option_or}
+use Rattle.std.specs.Option.{option_and_then, option_map_or, is_some, option_or}
 use Rattle.std.proofs.lemmas.List.Sums.{sum_by-cons}
 use Rattle.std.proofs.lemmas.List.Folds.{find-append}
 use Rattle.std.proofs.lemmas.List.FromFn.{get_or-map-range_with_len, length-map-range_with_len}
 use Rattle.std.proofs.lemmas.List.{get_or_past}
 use Rattle.std.proofs.lemmas.Option.{none-some, cond_some}
-use Rattle.std.proofs.lemmas.Bool.{cases_lt, and_parts, cases_eq}
-use Rattle.lt_terms.specs.Items.{Item, item_cost, total_cost}
-use Rattle.lt_terms.specs.Hashes.{home_column}
+use Rattle.std.proofs.lemmas.Bool.{cases_lt, cases_eq}
 use Rattle.lt_tables.specs.declared.Entry.{Entry}
 use Rattle.lt_tables.specs.declared.Sending.{Sending}
 use Rattle.lt_tables.specs.declared.ColumnPlan.{ColumnPlan}
 use Rattle.lt_tables.specs.Bucket.{capacity}
-use Rattle.lt_tables.specs.Placement.{columns, entry_of, homed, entries_cost, column_load, is_sender, cost_below, cost_from, greatest, column_mark, sent_cost, put_by_load, by_load, senders, receivers, room, better, best, sendings, keeps_all, plan_of, placement, plan_at, placement_of}
-use Rattle.lt_tables.specs.Table.{place_of}
+use Rattle.lt_tables.specs.Placement.{columns, homed, entries_cost, column_load, is_sender, cost_below, column_mark, sent_cost, put_by_load, by_load, senders, receivers, room, better, best, sendings, keeps_all, plan_of, plan_at}
 
 -- ---- sums by recursion
 
-abbrev total : {A : Type 0} → (A → ℕ) → List A → ℕ
+abbrev pub total : {A : Type 0} → (A → ℕ) → List A → ℕ
 total f [] = 0
 total f (x ∷ xs) = f x + total f xs
 
@@ -28,11 +25,11 @@ sum_total : {A : Type 0} (f : A → ℕ) (xs : List A) → sum_by f xs ≡ total
 sum_total f [] = refl
 sum_total f (x ∷ xs) = sum_by-cons f x xs ∙ ap (λ n. f x + n) (sum_total f xs)
 
-total-le : {A : Type 0} (f g : A → ℕ) (xs : List A) → ((x : A) → f x ≤ g x) → total f xs ≤ total g xs
+pub total-le : {A : Type 0} (f g : A → ℕ) (xs : List A) → ((x : A) → f x ≤ g x) → total f xs ≤ total g xs
 total-le f g [] h = omega arith
 total-le f g (x ∷ xs) h = let a = h x in let b = total-le f g xs h in omega arith
 
-total-add : {A : Type 0} (f g : A → ℕ) (xs : List A) → total (λ x. f x + g x) xs ≡ total f xs + total g xs
+pub total-add : {A : Type 0} (f g : A → ℕ) (xs : List A) → total (λ x. f x + g x) xs ≡ total f xs + total g xs
 total-add f g [] = refl
 total-add f g (x ∷ xs) = let h = total-add f g xs in omega arith
 

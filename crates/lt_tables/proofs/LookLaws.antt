@@ -1,6 +1,6 @@
 -- What a look-up in a bucket of a placed table answers.
-use Rattle.std.proofs.Common.{◌≡◌, ℕ, zero, suc, ◌+◌, ◌<◌, ◌≤◌, refl, sym, ap, subst, ◌∙◌, List, [], ◌∷◌, Bool, true, false, cond, ◌&&◌, Option, Some, None, eq-eqb}
-use Rattle.std.specs.Prelude.{IsTrue, ◌==◌, nat_le}
+use Rattle.std.proofs.Common.{◌≡◌, ℕ, ◌<◌, refl, ap, subst, ◌∙◌, List, [], ◌∷◌, Bool, true, false, cond, ◌&&◌, Option, Some, None}
+use Rattle.std.specs.Prelude.{◌==◌, nat_le}
 use Rattle.std.specs.List.{filter, find, last_or, AllByRecursion}
 use Rattle.std.specs.Option.{option_to_list, option_map}
 use Rattle.std.specs.Cmp.Lexicographic.{bytes_decides}
@@ -9,8 +9,7 @@ use Rattle.lt_terms.specs.Bytes.{same_bytes}
 use Rattle.lt_terms.specs.Hashes.{home_column, key_suffix}
 use Rattle.lt_terms.specs.Items.{Item}
 use Rattle.lt_tables.specs.declared.ColumnPlan.{ColumnPlan}
-use Rattle.lt_tables.specs.declared.Sends.{Sends}
-use Rattle.lt_tables.specs.Bucket.{Bucket, Look, here, moved, absent, look_of, look_in_1, look_on, sent_to, bucket_of}
+use Rattle.lt_tables.specs.Bucket.{moved, absent, look_of, look_in_1, look_on, sent_to, bucket_of}
 use Rattle.lt_tables.specs.Placement.{plan_at}
 use Rattle.lt_tables.specs.Table.{place_of, sends_in, bucket_in}
 use Rattle.lt_tables.specs.Merge.{versions_of, newest_of, newest}

@@ -1,22 +1,22 @@
 -- The placement of valid items in rank order makes plans that fit.
-use Rattle.std.proofs.Common.{◌≡◌, ℕ, zero, suc, ◌+◌, ◌<◌, ◌≤◌, refl, sym, ap, subst, ◌∙◌, List, [], ◌∷◌, map, length, max, Bool, true, false, ◌&&◌, cond, Option, Some, None, arith, lt-ltb, true≢false, ⊎_elim}
-use Rattle.std.specs.Prelude.{IsTrue, ◌==◌, nat_le, nat_lt}
-use Rattle.std.specs.List.{filter, find, sum_by, fold, list_all, AllByRecursion}
+use Rattle.std.proofs.Common.{◌≡◌, ℕ, ◌+◌, ◌<◌, ◌≤◌, refl, sym, ap, subst, ◌∙◌, List, [], ◌∷◌, map, max, Bool, true, false, ◌&&◌, cond, Option, Some, None, arith, lt-ltb, ⊎_elim}
+use Rattle.std.specs.Prelude.{◌==◌, nat_le, nat_lt}
+use Rattle.std.specs.List.{filter, find, fold, list_all, AllByRecursion}
 use Rattle.std.specs.Option.{option_map, option_map_or}
 use Rattle.std.proofs.lemmas.List.Sums.{sum_by-cons}
 use Rattle.std.proofs.lemmas.Option.{none-some, cond_some}
 use Rattle.std.proofs.lemmas.Bool.{cases_lt, and_parts}
 use Rattle.lt_terms.specs.Items.{Item, is_valid, item_cost, total_cost}
-use Rattle.lt_terms.specs.Hashes.{home_column, key_suffix}
+use Rattle.lt_terms.specs.Hashes.{home_column}
 use Rattle.lt_tables.specs.declared.Entry.{Entry}
 use Rattle.lt_tables.specs.declared.Sending.{Sending}
 use Rattle.lt_tables.specs.declared.ColumnPlan.{ColumnPlan}
 use Rattle.lt_tables.specs.declared.Sends.{Sends}
 use Rattle.lt_tables.specs.Bucket.{capacity}
 use Rattle.lt_tables.specs.Merge.{newest}
-use Rattle.lt_tables.specs.Placement.{columns, entry_of, homed, entries_cost, column_load, column_mark, cost_below, greatest, senders, sendings, keeps_all, plan_of, placement, plan_at, placement_of}
-use Rattle.lt_tables.specs.Table.{place_of, sends_in, bucket_in}
-use Rattle.lt_tables.proofs.TableLaws.{Fits, PlansFit}
+use Rattle.lt_tables.specs.Placement.{columns, entry_of, homed, entries_cost, column_load, column_mark, cost_below, senders, sendings, plan_of, placement, plan_at, placement_of}
+use Rattle.lt_tables.specs.Table.{place_of}
+use Rattle.lt_tables.proofs.TableLaws.{PlansFit}
 use Rattle.lt_tables.proofs.HashLaws.{home_column-small, key_suffix-small}
 use Rattle.lt_tables.proofs.FitLaws.{Made, lies, plan_from, plans_of, plan_is, plan_past, sendings-made, no_made, column-fits}
 
@@ -111,9 +111,17 @@ place_small : (b : Bool) (plan : ColumnPlan) (home : ℕ) → IsPlan plan → ho
 place_small true plan home p h = p.target
 place_small false plan home p h = h
 
-sends_fine : (b : Bool) (plan : ColumnPlan) → IsPlan plan → (s : Sends) → cond b (Some (record { target = plan.target; mark = plan.mark })) None ≡ Some s → s.target < 64
-sends_fine true plan p s h = let same : record { target = plan.target; mark = plan.mark } ≡ s = cc in subst (λ (s : Sends). s.target < 64) same p.target
-sends_fine false plan p s h = absurd (none-some s h)
+sends_fine : (b : Bool) (plan : ColumnPlan) → IsPlan plan → option_map_or (λ (s : Sends). nat_lt s.target 64 && nat_lt s.mark 4294967296) (cond b (Some (record { target = plan.target; mark = plan.mark })) None) true ≡ true
+sends_fine true plan p = ap (λ b. b && nat_lt plan.mark 4294967296) (lt-ltb plan.target 64 p.target) ∙ lt-ltb plan.mark 4294967296 p.mark
+sends_fine false plan p = refl
+
+-- each item of a placed table lies in one of its columns
+pub placement-within : (items : List Item) (plans : List ColumnPlan) → placement_of items ≡ Some plans → (v : Item) → place_of plans v < 64
+placement-within items plans placed v =
+    let es : List Entry = map entry_of items in
+    let h = placement-sendings items plans placed in
+    let m : Made es h.made = sendings-made es (senders es) [] h.made h.sent (no_made es) in
+    subst (λ ps. place_of ps v < 64) (sym h.plans_are) (place_small _ (plan_at (plans_of es h.made) (home_column v.key)) (home_column v.key) (plan-is items h.made (home_column v.key) m) (home_column-small v.key))
 
 -- THE PLACEMENT of valid items in rank order: each bucket fits
 pub placement-fits : (items : List Item) (plans : List ColumnPlan) → placement_of items ≡ Some plans → newest items ≡ items → list_all is_valid items ≡ true → PlansFit plans items
@@ -126,6 +134,6 @@ placement-fits items plans placed ranked valid =
       fit = λ c small. record {
         valid = ap (λ xs. list_all is_valid (filter (λ v. place_of (plans_of es h.made) v == c) xs)) ranked ∙ valid_filter (λ v. place_of (plans_of es h.made) v == c) items valid;
         small = subst (λ n. n ≤ capacity) (sym (ap (λ xs. total_cost (filter (λ v. place_of (plans_of es h.made) v == c) xs)) ranked ∙ items_cost (λ (e : Entry). lies (plan_at (plans_of es h.made) e.column) e == c) items)) (column-fits es h.made c h.sent small);
-        target = sends_fine (plan_at (plans_of es h.made) c).sends (plan_at (plans_of es h.made) c) (plan-is items h.made c m);
+        sending = sends_fine (plan_at (plans_of es h.made) c).sends (plan_at (plans_of es h.made) c) (plan-is items h.made c m);
       };
     })

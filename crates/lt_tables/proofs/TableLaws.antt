@@ -1,6 +1,6 @@
 -- The items of a table that is placed are those that were placed.
-use Rattle.std.proofs.Common.{◌≡◌, ℕ, zero, suc, ◌+◌, ◌-◌, ◌<◌, ◌≤◌, refl, sym, ap, subst, ◌∙◌, List, [], ◌∷◌, ◌++◌, length, Bool, true, false, cond, Option, Some, None, arith, eq-eqb, ne_eqb, append-nil, ⊎_elim, lt-ltb, ltb-true}
-use Rattle.std.specs.Prelude.{IsTrue, ◌==◌}
+use Rattle.std.proofs.Common.{◌≡◌, ℕ, zero, suc, ◌+◌, ◌<◌, ◌≤◌, refl, sym, ap, ◌∙◌, List, [], ◌∷◌, ◌++◌, true, cond, Option, Some, None, arith, eq-eqb, ne_eqb, ⊎_elim}
+use Rattle.std.specs.Prelude.{◌==◌, ◌&&◌, nat_lt}
 use Rattle.std.specs.List.{flat_map, filter, last_or, range_with_len, list_all}
 use Rattle.std.specs.Option.{option_to_list, option_map_or}
 use Rattle.std.proofs.lemmas.Bool.{cases_eq}
@@ -10,17 +10,17 @@ use Rattle.lt_terms.specs.Items.{Item, is_valid, total_cost}
 use Rattle.lt_tables.specs.declared.Sends.{Sends}
 use Rattle.lt_tables.specs.declared.ColumnPlan.{ColumnPlan}
 use Rattle.lt_tables.specs.Bucket.{Bucket, capacity, bucket_of, items_on}
-use Rattle.lt_tables.specs.Placement.{columns, placement_of}
+use Rattle.lt_tables.specs.Placement.{columns}
 use Rattle.lt_tables.specs.Merge.{versions_of, newest_of, newest}
-use Rattle.lt_tables.specs.Table.{place_of, bucket_in, IsPlaced, table_items}
+use Rattle.lt_tables.specs.Table.{place_of, bucket_in, table_items}
 use Rattle.lt_tables.specs.Alike.{SameNewest, HasOnce}
-use Rattle.lt_tables.proofs.NewestLaws.{filters_swap, versions_of-newest, newest_of-newest}
+use Rattle.lt_tables.proofs.NewestLaws.{filters_swap, versions_of-newest}
 
 -- what a bucket asks
 pub record Fits (b : Bucket) : Type 0 where
   pub valid : list_all is_valid b.items ≡ true
   pub small : total_cost b.items ≤ capacity
-  pub target : (s : Sends) → b.sends ≡ Some s → s.target < 64
+  pub sending : option_map_or (λ (s : Sends). nat_lt s.target 64 && nat_lt s.mark 4294967296) b.sends true ≡ true
 
 -- each item lies in one of the 64 columns, and each column's bucket fits
 pub record PlansFit (plans : List ColumnPlan) (items : List Item) : Type 0 where
@@ -80,22 +80,22 @@ option_spread place None within = none_spread place (range_with_len 0 64)
 option_spread place (Some v) within = once (place v) v 0 64 (omega arith) (let h = within v in omega arith)
 
 -- the versions of a key in a placed table: its newest version alone
-pub versions_of-placed : (plans : List ColumnPlan) (items : List Item) (block : ℕ → List ℕ) (key : List ℕ) → PlansFit plans items → ((c : ℕ) → c < 64 → bucket_of (block c) ≡ Some (bucket_in plans items c))
+pub versions_of-placed : (plans : List ColumnPlan) (items : List Item) (block : ℕ → List ℕ) (key : List ℕ) → ((v : Item) → place_of plans v < 64) → ((c : ℕ) → c < 64 → bucket_of (block c) ≡ Some (bucket_in plans items c))
     → versions_of key (table_items block) ≡ option_to_list (newest_of key items)
-versions_of-placed plans items block key fits buckets =
+versions_of-placed plans items block key within buckets =
     ap (versions_of key) (table_items-placed plans items block buckets)
     ∙ versions_spread key (place_of plans) (newest items) columns
     ∙ ap (λ xs. flat_map (λ c. filter (λ v. place_of plans v == c) xs) columns) (versions_of-newest key items)
-    ∙ option_spread (place_of plans) (newest_of key items) fits.within
+    ∙ option_spread (place_of plans) (newest_of key items) within
 
 last_of_option : (o : Option Item) → last_or None (option_to_list o) ≡ o
 last_of_option None = refl
 last_of_option (Some v) = refl
 
 -- A PLACED TABLE holds what was placed
-pub SameNewest-placed : (plans : List ColumnPlan) (items : List Item) (block : ℕ → List ℕ) → PlansFit plans items → ((c : ℕ) → c < 64 → bucket_of (block c) ≡ Some (bucket_in plans items c)) → SameNewest (table_items block) items
-SameNewest-placed plans items block fits buckets = record { each = λ key. ap (last_or None) (versions_of-placed plans items block key fits buckets) ∙ last_of_option (newest_of key items) }
+pub SameNewest-placed : (plans : List ColumnPlan) (items : List Item) (block : ℕ → List ℕ) → ((v : Item) → place_of plans v < 64) → ((c : ℕ) → c < 64 → bucket_of (block c) ≡ Some (bucket_in plans items c)) → SameNewest (table_items block) items
+SameNewest-placed plans items block within buckets = record { each = λ key. ap (last_or None) (versions_of-placed plans items block key within buckets) ∙ last_of_option (newest_of key items) }
 
 -- each key once
-pub HasOnce-placed : (plans : List ColumnPlan) (items : List Item) (block : ℕ → List ℕ) → PlansFit plans items → ((c : ℕ) → c < 64 → bucket_of (block c) ≡ Some (bucket_in plans items c)) → HasOnce (table_items block)
-HasOnce-placed plans items block fits buckets = record { each = λ key. versions_of-placed plans items block key fits buckets ∙ ap option_to_list (sym ((SameNewest-placed plans items block fits buckets).each key)) }
+pub HasOnce-placed : (plans : List ColumnPlan) (items : List Item) (block : ℕ → List ℕ) → ((v : Item) → place_of plans v < 64) → ((c : ℕ) → c < 64 → bucket_of (block c) ≡ Some (bucket_in plans items c)) → HasOnce (table_items block)
+HasOnce-placed plans items block within buckets = record { each = λ key. versions_of-placed plans items block key within buckets ∙ ap option_to_list (sym ((SameNewest-placed plans items block within buckets).each key)) }

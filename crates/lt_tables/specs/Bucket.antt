@@ -1,8 +1,8 @@
 -- Buckets and the page that spells one, and what a look-up of a key answers.
-use Rattle.std.specs.Prelude.{◌≡◌, ℕ, ◌+◌, ◌-◌, ◌<◌, ◌≤◌, Bool, true, false, ◌&&◌, List, [], ◌∷◌, ◌++◌, length, take, drop, Option, Some, None, IsTrue, nat_eq, nat_lt, nat_le, ◌==◌, if◌then◌else◌, slice_index, slice_range}
+use Rattle.std.specs.Prelude.{ℕ, ◌+◌, Bool, true, ◌&&◌, List, [], ◌∷◌, ◌++◌, length, drop, Option, Some, None, nat_lt, nat_le, ◌==◌, if◌then◌else◌, slice_index, slice_range}
 use Rattle.std.specs.Option.{option_and_then, option_map, option_map_or}
 use Rattle.std.specs.List.{find, list_all}
-use Rattle.lt_terms.specs.Bytes.{u16, u32, u16_at, u32_at, zeros, block_of, block_len, all_zero, same_bytes}
+use Rattle.lt_terms.specs.Bytes.{u16, u32, u16_at, u32_at, zeros, block_of, all_zero, same_bytes}
 use Rattle.lt_terms.specs.Items.{Item, total_cost, spellings, items_of, is_valid}
 use Rattle.lt_terms.specs.Hashes.{key_suffix}
 use Rattle.lt_tables.specs.declared.Sends.{Sends}
