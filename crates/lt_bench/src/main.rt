@@ -4,6 +4,8 @@
 
 mod memory;
 mod plain;
+#[cfg(test)]
+mod plain_place;
 mod sample;
 
 use lt_balance::{are_entries, cut};

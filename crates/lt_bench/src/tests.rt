@@ -1,5 +1,6 @@
 use crate::plain::plain_cut;
-use lt_balance::{Entry, are_entries, cut};
+use crate::plain_place::plain_place;
+use lt_balance::{Entry, are_entries, cut, place};
 use lt_page::NoMemory;
 use std::alloc::Global;
 
@@ -38,6 +39,38 @@ fn generated_lists_are_cut_as_the_rule_says(rt: HostRuntime) -> Result<(), NoMem
         let tables = agreed_tables(rt.alloc(), seed)?;
         assert!(rt; tables.is_some(), "of {seed}");
         assert!(rt; tables > Some(1), "of {seed}");
+    }
+    Ok(())
+}
+
+/// Whether both make the same plans of a front of the list, or both none.
+fn is_placed_alike(alloc: Global, seed: u32, front: usize) -> Result<bool, NoMemory> {
+    let entries = crowded_entries(alloc, seed)?;
+    let Some((front, _)) = entries.split_at_checked(front) else {
+        return Ok(false);
+    };
+    if !are_entries(front) {
+        return Ok(false);
+    }
+    let placement = place(alloc, front)?;
+    match (placement, plain_place(front)) {
+        (Some(placement), Some(plans)) => {
+            Ok((0..64u8).all(|column| placement.plan(column) == &plans[column as usize]))
+        }
+        (None, None) => Ok(true),
+        _ => Ok(false),
+    }
+}
+
+#[test]
+fn generated_lists_are_placed_as_the_rule_says(rt: HostRuntime) -> Result<(), NoMemory> {
+    for seed in 0..300 {
+        for front in [20, 25, 30, 35, 60] {
+            assert!(rt;
+                is_placed_alike(rt.alloc(), seed, front)?,
+                "{front} of {seed}"
+            );
+        }
     }
     Ok(())
 }
