@@ -55,6 +55,16 @@ syncs {P} {old} {mid} {new} {n} sync so_far = ⊎_elim
     (λ (done : new ≡ synced mid). subst (λ (s : State). Leaves P old s) (sym done) (after_sync n so_far sync.fit))
     sync.either
 
+-- two facts of each image are one
+pub both : {P Q : Image → Type 0} {old new : State} → Leaves P old new → Leaves Q old new → Leaves (λ left. P left × Q left) old new
+both p q = record {
+  later = p.later;
+  now = λ left may. (p.now left may, q.now left may);
+  each = λ left since. (p.each left since, q.each left since);
+  before = λ t left le since. ⊎_elim inl (λ has. ⊎_elim inl (λ more. inr (has, more)) (q.before t left le since)) (p.before t left le since);
+  keeps = p.keeps;
+}
+
 -- a call that leaves what is told as it is
 pub stays : {P : Image → Type 0} {old mid new : State} → new ≡ mid → Leaves P old mid → Leaves P old new
 stays {P} {old} {mid} {new} same so_far = subst (λ (s : State). Leaves P old s) (sym same) so_far

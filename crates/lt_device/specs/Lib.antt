@@ -2,5 +2,6 @@ pub mod History
 pub mod Image
 pub mod Memory
 pub mod Moments
+pub mod Reads
 pub mod State
 pub mod Steady

@@ -102,6 +102,9 @@ pub fn composition<P: Fact, Q: Fact>()
         → ((left : Image) → Q.holds left → P.holds left) → Leaves P.holds old new }
     ensures weakens { (old new : State) → Leaves P.holds old new
         → ((left : Image) → P.holds left → Q.holds left) → Leaves Q.holds old new }
+    // two facts of each image are one
+    ensures both { (old new : State) → Leaves P.holds old new → Leaves Q.holds old new
+        → Leaves (λ left. P.holds left × Q.holds left) old new }
     // what holds of each image now holds of one since a time
     ensures some_since { (n : ℕ) (s : State) (t : ℕ) (epochs : List Epoch) → IsFit n s
         → s.past ≡ Some epochs → ((left : Image) → MayLeave s left → P.holds left)

@@ -1,8 +1,7 @@
 -- What a call sees of an extent: pages that are the device's blocks, where the device tells them.
-use Rattle.std.specs.Prelude.{◌≡◌, ℕ, ◌+◌, ◌<◌, ◌≤◌, min, max, List, Option, Some, None, Result, Ok, Err, IsTrue, is_some}
+use Rattle.std.specs.Prelude.{◌≡◌, ℕ, ◌+◌, ◌<◌, List, Option, Some, None, Result, Ok, Err, IsTrue, is_some}
 use Rattle.std.specs.Option.{ForSome, option_map}
 use Rattle.lt_terms.specs.Bytes.{Image, block_at}
-use Rattle.lt_terms.specs.Causes.{last_count}
 use Rattle.lt_terms.specs.Items.{Item}
 use Rattle.lt_terms.specs.Hashes.{home_column}
 use Rattle.lt_item.specs.declared.view.ItemView.{ItemView}
@@ -15,11 +14,6 @@ use Rattle.lt_htable.specs.declared.faults.LookFault.TheVariants.{Device, Damage
 -- the page is what the device reads as there, where it tells that
 abbrev pub IsRead : Option Image → ℕ → List ℕ → Type 0
 IsRead shown block page = ForSome shown (λ image. page ≡ block_at image block)
-
--- a count of reads rose by so many at most, and not past its end
-pub record CountsAtMost (n before now : ℕ) : Type 0 where
-  pub later : before ≤ now
-  pub at_most : now ≤ max before (min (before + n) last_count)
 
 -- a block whose page, as it was read, spells no bucket
 pub record IsNoBucket (shown : Option Image) (block : ℕ) : Type 0 where

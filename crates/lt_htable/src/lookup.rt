@@ -4,6 +4,7 @@ ghost use Rattle.std.specs.Prelude.{◌≡◌, ℕ, ◌+◌, ◌<◌, ◌≤◌,
 ghost use Rattle.std.specs.Option.{ForSome, option_map};
 ghost use Rattle.lt_terms.specs.Bytes.{Image};
 ghost use Rattle.lt_terms.specs.Causes.{Rose};
+ghost use Rattle.lt_device.specs.Reads.{CountsAtMost};
 ghost use Rattle.lt_terms.specs.Items as terms;
 ghost use Rattle.lt_item.specs.Views.{item_of};
 ghost use Rattle.lt_tables.specs.Bucket.{look_on};
@@ -11,7 +12,7 @@ ghost use Rattle.lt_tables.specs.Merge.{newest_of};
 ghost use Rattle.lt_tables.specs.Table.{blocks_from, IsPlaced};
 ghost use Rattle.lt_bucket.specs.Looks.{look_of};
 ghost use Rattle.lt_item.specs.Parts.{parts_of};
-ghost use Rattle.lt_htable.specs.Reading.{AnswersLook, CountsAtMost, IsSought, at_last, target_of};
+ghost use Rattle.lt_htable.specs.Reading.{AnswersLook, IsSought, at_last, target_of};
 
 use super::extent::block_in;
 use super::faults::LookFault;

@@ -3,12 +3,13 @@
 ghost use Rattle.std.specs.Prelude.{◌≡◌, ℕ, ◌+◌, ◌<◌, ◌≤◌, ◌++◌, List, Some, IfOk, OnOk, IsErrOf, IsTrue};
 ghost use Rattle.std.specs.List.{list_all};
 ghost use Rattle.lt_terms.specs.Causes.{Rose};
+ghost use Rattle.lt_device.specs.Reads.{CountsAtMost};
 ghost use Rattle.lt_terms.specs.Bytes.{Image};
 ghost use Rattle.lt_terms.specs.Items as terms;
 ghost use Rattle.lt_terms.specs.Items.{is_valid};
 ghost use Rattle.lt_tables.specs.Alike.{HasOnce, SameNewest};
 ghost use Rattle.lt_tables.specs.Table.{blocks_from, IsPlaced, table_items};
-ghost use Rattle.lt_htable.specs.Reading.{IsScanned, IsNoBucket, CountsAtMost};
+ghost use Rattle.lt_htable.specs.Reading.{IsScanned, IsNoBucket};
 
 use super::extent::read_bucket;
 use super::faults::ScanFault;

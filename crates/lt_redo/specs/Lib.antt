@@ -1,3 +1,4 @@
 pub mod Group
 pub mod LogState
+pub mod Opening
 pub mod Slots

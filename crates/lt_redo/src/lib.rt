@@ -4,6 +4,8 @@
 mod clear;
 mod group;
 mod log;
+mod opening;
+mod replay;
 mod slot;
 #[cfg(test)]
 mod tests;

@@ -1,29 +1,33 @@
 //! The log in memory: its open group, and its place on the device.
 
-ghost use Rattle.std.specs.Prelude.{◌≡◌, ℕ, ◌+◌, ◌-◌, ◌<◌, ◌≤◌, ◌≢◌, ◌↔◌, [], ◌∷◌, ◌++◌, List, true, false, length, IsTrue, IfOk, IsOk, IsErr, OnOk, OnErr};
+ghost use Rattle.std.specs.Prelude.{◌≡◌, ℕ, ◌+◌, ◌*◌, ◌-◌, ◌<◌, ◌≤◌, ◌≢◌, ◌↔◌, [], ◌∷◌, ◌++◌, List, true, false, length, IsTrue, Err, IfOk, IsOk, IsErr, IsErrOf, OnOk, OnErr};
+ghost use Rattle.std.specs.List.{list_all};
+ghost use Rattle.std.specs.Option.{ForSome};
 ghost use Rattle.lt_terms.specs.Bytes.{Image};
-ghost use Rattle.lt_terms.specs.Causes.{HasCause};
-ghost use Rattle.lt_terms.specs.Items.{Item, is_valid, item_cost, total_cost};
+ghost use Rattle.lt_terms.specs.Causes.{HasCause, Rose};
+ghost use Rattle.lt_terms.specs.Items as terms;
+ghost use Rattle.lt_terms.specs.Items.{is_valid, item_cost, total_cost};
 ghost use Rattle.lt_item.specs.Views.{item_of};
+ghost use Rattle.lt_device.specs.Reads.{CountsAtMost};
 ghost use Rattle.lt_device.specs.Moments.{MayLeave, Leaves, ConfinedTo, UnsyncedIn};
 ghost use Rattle.lt_format.specs.Layout.{is_geometry, extent_block};
-ghost use Rattle.lt_format.specs.Log.{group_room, log_fits, items_in};
+ghost use Rattle.lt_format.specs.Log.{group_room, log_fits, log_groups, items_in};
 ghost use Rattle.lt_redo.specs.LogState.{LogState, other_area, slots_with, groups_with};
+ghost use Rattle.lt_redo.specs.Opening.{HasItems};
 ghost use Rattle.lt_redo.specs.Slots.{InSlot, InLogArea, HasLog, HasLogOrLonger, IsCleared};
 
 use crate::clear::clear_area;
-use crate::group::{finish, gather};
+use crate::group::{GROUP_ROOM, finish, gather};
+use crate::opening::replay;
 use crate::slot::write_slot;
+use lt_bucket::Item;
 use lt_device::Device;
 use lt_format::Geometry;
 use lt_item::{ItemView, cost};
-use lt_layout::write_gate;
+use lt_layout::{OpenFault, write_gate};
 use lt_page::{Failed, NoMemory, Page};
 use std::alloc::Global;
 use std::marker::Model;
-
-/// What the items of a group cost at most.
-const GROUP_ROOM: u16 = 4092;
 
 /// The open group has no room for the item.
 #[derive(Clone, Copy, Debug, PartialEq, Eq)]
@@ -63,13 +67,59 @@ impl Model for Log {
 }
 
 impl Log {
-    /// A log with this many groups and nothing pending. All memory that it will need is taken here.
-    pub(crate) fn at(
+    /// Opens the log of a log area that began at this number of writes, the manifest's, and gives the
+    /// items of its groups in their order. It writes nothing. All memory that the log will need is
+    /// taken here.
+    ///
+    /// `Damaged` is the first block that does not stand: a gate that is open behind a closed one, or a
+    /// content behind an open gate that spells no group, or one with which the log would cost more than
+    /// 204,092 bytes or pass the greatest number of writes.
+    pub fn open<D: Device>(
+        alloc: Global,
+        device: &mut D,
+        geometry: &Geometry,
+        area: u8,
+        writes: u64,
+    ) -> Result<(Log, Vec<Item>), OpenFault>
+        requires valid { IsTrue (is_geometry geometry.now) }
+        requires area { area < 2 }
+        requires within { extent_block geometry.now 0 ≤ D.blocks device.old }
+        ensures log { IfOk result (λ opened. opened.0 ≡ record {
+          geometry = geometry.now;
+          area = area;
+          writes = writes;
+          slots = opened.0.slots;
+          pending = [];
+          cleared = false;
+        }) }
+        ensures read { IfOk result (λ opened. ForSome (D.state device.old).shown (HasItems geometry.now area writes opened.0.slots opened.1.items)) }
+
+        // Whatever the device tells.
+        ensures items { IfOk result (λ opened. IsTrue (list_all is_valid opened.1.items)) }
+        ensures fits { IfOk result (λ opened. IsTrue (log_fits writes opened.1.items)) }
+
+        ensures damaged { (b : ℕ) → IsErrOf result (OpenFault.Damaged b) → ForSome (D.state device.old).shown (λ image. log_groups geometry.now image area writes ≡ Err b) }
+        ensures damaged_block { (b : ℕ) → IsErrOf result (OpenFault.Damaged b) → InLogArea geometry.now area b }
+        ensures cause { IsErrOf result OpenFault.Device → Rose (D.faults device.old) (D.faults device.new) }
+        ensures later { D.faults device.old ≤ D.faults device.new }
+        ensures state { D.state device.new ≡ D.state device.old }
+        ensures size { D.blocks device.new ≡ D.blocks device.old }
+        ensures count { CountsAtMost (2 * geometry.now.slots) (D.reads device.old) (D.reads device.new) }
+    {
+        let mut page = Page::new(alloc)?;
+        let (slots, read) = replay(alloc, device, geometry, area, writes, &mut page)?;
+        let log = Log::at(alloc, geometry, area, writes, slots, page)?;
+        Ok((log, read.items))
+    }
+
+    /// A log with this many groups and nothing pending, which keeps the page for its open group.
+    fn at(
         alloc: Global,
         geometry: &Geometry,
         area: u8,
         writes: u64,
         slots: u16,
+        mut content: Page,
     ) -> Result<Log, NoMemory>
         requires valid { IsTrue (is_geometry geometry.now) }
         requires area { area < 2 }
@@ -83,7 +133,7 @@ impl Log {
           cleared = false;
         }) }
     {
-        let content = Page::new(alloc)?;
+        content.clear();
         let mut opened = Page::new(alloc)?;
         write_gate(&mut opened, true);
         let mut closed = Page::new(alloc)?;
@@ -148,13 +198,13 @@ impl Log {
         ensures idle { self.old.pending ≡ [] → (IsOk result × (device.new ≡ device.old)) }
 
         // Each image since the start has the log as before, or with the whole open group.
-        ensures any_moment { (groups : List (List Item)) → length groups ≡ self.old.slots
+        ensures any_moment { (groups : List (List terms.Item)) → length groups ≡ self.old.slots
             → IsTrue (log_fits self.old.writes (items_in (groups ++ self.old.pending ∷ [])))
             → ((left : Image) → MayLeave (D.state device.old) left → HasLog self.old.geometry self.old.area self.old.writes groups left)
             → Leaves (HasLogOrLonger self.old.geometry self.old.area self.old.writes groups self.old.pending) (D.state device.old) (D.state device.new) }
 
         // After Ok only the latter.
-        ensures committed { OnOk result ((groups : List (List Item)) → length groups ≡ self.old.slots
+        ensures committed { OnOk result ((groups : List (List terms.Item)) → length groups ≡ self.old.slots
             → IsTrue (log_fits self.old.writes (items_in (groups ++ self.old.pending ∷ [])))
             → ((left : Image) → MayLeave (D.state device.old) left → HasLog self.old.geometry self.old.area self.old.writes groups left)
             → (left : Image) → MayLeave (D.state device.new) left → HasLog self.old.geometry self.old.area self.old.writes (groups_with groups self.old.pending) left) }
@@ -191,6 +241,11 @@ impl Log {
         ensures cleared { OnOk result ((left : Image) → MayLeave (D.state device.new) left → IsCleared self.old.geometry (other_area self.old.area) left) }
         ensures empty { OnOk result ((writes : ℕ) (left : Image) → MayLeave (D.state device.new) left → HasLog self.old.geometry (other_area self.old.area) writes [] left) }
         ensures confined { ConfinedTo (InLogArea self.old.geometry (other_area self.old.area)) (D.state device.old) (D.state device.new) }
+
+        // Whatever it answers, each image since the start has the log of the current area as before.
+        ensures kept { (groups : List (List terms.Item))
+            → ((left : Image) → MayLeave (D.state device.old) left → HasLog self.old.geometry self.old.area self.old.writes groups left)
+            → Leaves (HasLog self.old.geometry self.old.area self.old.writes groups) (D.state device.old) (D.state device.new) }
         ensures sure { OnOk result (UnsyncedIn (λ _. ⊥) (D.state device.new)) }
         ensures size { D.blocks device.new ≡ D.blocks device.old }
         ensures count { D.reads device.new ≡ D.reads device.old }

@@ -1,4 +1,4 @@
-use Rattle.lt_device.proofs.Runs.{begins, goes_on, writes, syncs, stays, joins, weakens, some_since}
+use Rattle.lt_device.proofs.Runs.{begins, goes_on, writes, syncs, stays, joins, weakens, both, some_since}
 use Rattle.lt_device.proofs.laws.composition.Goals as goal
 
 pub returns-clause-begins : goal.returns-clause-begins
@@ -21,6 +21,9 @@ returns-clause-joins g c = λ old mid new then first has. joins then first has
 
 pub returns-clause-weakens : goal.returns-clause-weakens
 returns-clause-weakens g c = λ old new run has. weakens run has
+
+pub returns-clause-both : goal.returns-clause-both
+returns-clause-both g c = λ old new first second. both first second
 
 pub returns-clause-some_since : goal.returns-clause-some_since
 returns-clause-some_since g c = λ n s t epochs fit told has. some_since t epochs fit told has

@@ -1,5 +1,5 @@
 use Rattle.std.proofs.Common.{◌≡◌, ◌≤◌}
-use Rattle.lt_htable.specs.Reading.{CountsAtMost}
+use Rattle.lt_device.specs.Reads.{CountsAtMost}
 use Rattle.lt_htable.proofs.ScanLaws.{IsScannedTo}
 use Rattle.lt_htable.proofs.scanning.scan.Given as goal
 

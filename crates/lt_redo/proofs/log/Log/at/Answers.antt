@@ -8,7 +8,7 @@ invariant_of-result c = record {
   valid = c.requires.valid;
   area_is = c.requires.area;
   within = c.requires.within;
-  group = IsGathered-read _ 0 0 [] (IsGathered-none _ c.in_ok-content.ensures.zeros);
+  group = IsGathered-read _ 0 0 [] (IsGathered-none _ c.clear.ensures.zeros);
   opens = c.write_gate.ensures;
   closes = c.write_gate-2.ensures;
 }
@@ -16,4 +16,4 @@ invariant_of-result c = record {
 pub returns : goal.returns
 returns c =
     ap (λ (items : List Item). record { geometry = c.args.geometry.now; area = c.args.area; writes = c.args.writes; slots = c.args.slots; pending = items; cleared = false })
-    (items_on-gathered _ 0 0 [] (IsGathered-none _ c.in_ok-content.ensures.zeros))
+    (items_on-gathered _ 0 0 [] (IsGathered-none _ c.clear.ensures.zeros))

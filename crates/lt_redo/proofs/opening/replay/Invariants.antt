@@ -1,0 +1,16 @@
+use Rattle.std.proofs.Common.{◌≡◌, ◌*◌, ◌≤◌}
+use Rattle.std.specs.Option.{ForSome}
+use Rattle.lt_device.specs.Reads.{CountsAtMost}
+use Rattle.lt_redo.proofs.OpeningLaws.{IsReplayed}
+use Rattle.lt_redo.proofs.opening.replay.Given as goal
+
+-- the groups of the slots so far were read
+abbrev pub invariant-loop-slot : goal.invariant-loop-slot
+invariant-loop-slot g l = record {
+  writes : l.read.writes ≡ l.writes;
+  replayed : ForSome (g.D.Device.state l.fn.device).shown (IsReplayed l.geometry l.area l.writes l.slot l.read.items.items);
+  state : g.D.Device.state l.device ≡ g.D.Device.state l.fn.device;
+  size : g.D.Device.blocks l.device ≡ g.D.Device.blocks l.fn.device;
+  count : CountsAtMost (2 * l.slot) (g.D.Device.reads l.fn.device) (g.D.Device.reads l.device);
+  faults : g.D.Device.faults l.fn.device ≤ g.D.Device.faults l.device;
+}
