@@ -7,8 +7,10 @@ mod laws;
 mod node_id;
 #[cfg(test)]
 mod tests;
+mod trie_laws;
 
 pub use geometry::Geometry;
 pub use header::Header;
 pub use laws::regions_are_apart;
 pub use node_id::NodeId;
+pub use trie_laws::{changes_keep_tries, extents_suffice, nodes_may_be_set};
