@@ -27,7 +27,8 @@ times-absent x (y ∷ ys) h = by_head (y == x) (times-absent x ys) h
     by_head true rest h = absurd (true≢false h)
     by_head false rest h = omega (arith, rest h)
 
-absent-times : (x : ℕ) (xs : List ℕ) → times x xs ≡ 0 → is_in x xs ≡ false
+-- a number that does not stand in the list
+pub absent-times : (x : ℕ) (xs : List ℕ) → times x xs ≡ 0 → is_in x xs ≡ false
 absent-times x [] h = refl
 absent-times x (y ∷ ys) h = by_head (y == x) (absent-times x ys) h
   where
@@ -122,7 +123,7 @@ below-without n (y ∷ ys) h = by_head (y == n) refl (below-without n ys parts.1
         let small : y < n = ⊎_elim (λ (same : y ≡ n). absurd (true≢false (sym (eq-eqb y n same) ∙ e))) (λ other. ⊎_elim (λ l. l) (λ past. absurd (other (omega arith))) (cases_lt y n)) (cases_eq y n) in
         and_from (nat_lt y n) (all_below n (without n ys)) (lt-ltb y n small) rest
 
-few-below : (n : ℕ) (xs : List ℕ) → ((x : ℕ) → times x xs ≤ 1) → all_below n xs ≡ true → length xs ≤ n
+pub few-below : (n : ℕ) (xs : List ℕ) → ((x : ℕ) → times x xs ≤ 1) → all_below n xs ≡ true → length xs ≤ n
 few-below zero [] once h = omega arith
 few-below zero (y ∷ ys) once h = absurd (let small : y < 0 = ltb-true y 0 (and_parts (nat_lt y 0) (all_below 0 ys) h).0 in omega arith)
 few-below (suc n) xs once h =
