@@ -1,1 +1,10 @@
+pub mod ChildLaws
+pub mod KeepLaws
+pub mod NamedLaws
+pub mod NodeReadLaws
+pub mod Numbers
 pub mod RegionLaws
+pub mod ShapeLaws
+pub mod SnapshotReadLaws
+pub mod SpellLaws
+pub mod TrieLaws

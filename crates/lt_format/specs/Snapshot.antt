@@ -1,6 +1,6 @@
 -- The snapshot in a manifest area: its spelling, and reading it with the first field that does not stand.
 -- An area is read as a function from offsets to bytes, since its fields run across blocks and most of its 305 blocks are not looked at.
-use Rattle.std.specs.Prelude.{◌≡◌, ℕ, zero, suc, ◌+◌, ◌-◌, ◌*◌, ◌/◌, ◌%◌, ◌^◌, ◌<◌, ◌≤◌, Bool, true, false, not, ◌&&◌, List, [], ◌∷◌, ◌++◌, length, map, Option, Some, None, Result, Ok, Err, nat_le, nat_lt, ◌==◌, if◌then◌else◌, slice_index, slice_range}
+use Rattle.std.specs.Prelude.{ℕ, zero, suc, ◌+◌, ◌-◌, ◌*◌, ◌/◌, ◌%◌, ◌^◌, ◌<◌, Bool, true, not, ◌&&◌, List, [], ◌∷◌, ◌++◌, length, map, Option, Some, None, Result, Ok, Err, nat_le, nat_lt, ◌==◌, if◌then◌else◌, slice_index, slice_range, IsTrue}
 use Rattle.std.specs.Int.{Width, w8, w16, w32, w64, byte_len, from_be_bytes}
 use Rattle.std.specs.List.{flat_map, range_with_len}
 use Rattle.std.specs.Ordering.{is_lt}
@@ -10,7 +10,7 @@ use Rattle.lt_format.specs.declared.node_id.NodeId.{NodeId}
 use Rattle.lt_format.specs.declared.geometry.Geometry.{Geometry}
 use Rattle.lt_format.specs.declared.header.Header.{Header}
 use Rattle.lt_format.specs.Layout.{area_block, blocks_needed}
-use Rattle.lt_format.specs.Trie.{Node, Trie, node_cmp, node_extents, groups_for}
+use Rattle.lt_format.specs.Trie.{Node, Trie, node_cmp, node_extents, groups_for, IsTrie}
 
 -- a trie and what a manifest says beside it
 pub record Manifest : Type 0 where
@@ -133,6 +133,13 @@ snapshot_read g blocks bytes = do
   front ← front_read g blocks bytes
   nodes ← nodes_read bytes front.total g.levels front.header.extents front.nodes None [] 40
   if nodes.1 == front.total then Ok (record { header = front.header; trie = nodes.0 }) else Err total_offset
+
+-- what a manifest of a store is, on a device of this many blocks
+pub record IsManifest (g : Geometry) (blocks : ℕ) (m : Manifest) : Type 0 where
+  pub area : m.header.log_area < 2
+  pub extents : IsTrue (extents_stand g blocks m.header.extents)
+  pub writes : m.header.writes < 2 ^ 64
+  pub trie : IsTrie g.levels m.header.extents m.trie
 
 -- byte n of a manifest area of an image
 abbrev pub area_byte : Image → ℕ → ℕ → ℕ
