@@ -4,3 +4,4 @@ pub mod Regions
 pub mod Trie
 pub mod Changes
 pub mod Snapshot
+pub mod Naming
