@@ -3,6 +3,7 @@ pub mod KeepLaws
 pub mod NamedLaws
 pub mod NodeReadLaws
 pub mod Numbers
+pub mod ReadLaws
 pub mod RegionLaws
 pub mod ShapeLaws
 pub mod SnapshotReadLaws
