@@ -10,3 +10,4 @@ pub mod AfterLaws
 pub mod WholeLaws
 pub mod OpenLaws
 pub mod StandLaws
+pub mod PlacedLaws

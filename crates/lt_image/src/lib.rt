@@ -5,4 +5,4 @@ mod flushing;
 mod looking;
 
 pub use flushing::flushes_stand;
-pub use looking::paths_tell;
+pub use looking::{paths_tell, tables_answer};

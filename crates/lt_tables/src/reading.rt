@@ -3,7 +3,7 @@
 ghost use Rattle.std.specs.Prelude.{◌≡◌, ℕ, List, All, IsTrue};
 ghost use Rattle.lt_terms.specs.Items.{Item, is_valid};
 ghost use Rattle.lt_terms.specs.Maps.{value_at, empty_map, after_items};
-ghost use Rattle.lt_tables.specs.Merge.{newest_of, value_of};
+ghost use Rattle.lt_tables.specs.Merge.{newest, newest_of, value_of};
 ghost use Rattle.lt_tables.specs.Table.{table_items};
 
 /// The items of a table are valid, whatever its blocks hold.
@@ -12,7 +12,8 @@ pub fn read_items_are_valid()
 {}
 
 /// In the map that versions make, a key has the value of its newest version, and none where that is
-/// a delete or there is none.
+/// a delete or there is none. The newest versions alone have the same newest version of each key.
 pub fn newest_counts()
-    ensures { (versions : List Item) (key : List ℕ) → value_at (after_items empty_map versions) key ≡ value_of (newest_of key versions) }
+    ensures value { (versions : List Item) (key : List ℕ) → value_at (after_items empty_map versions) key ≡ value_of (newest_of key versions) }
+    ensures kept { (versions : List Item) (key : List ℕ) → newest_of key (newest versions) ≡ newest_of key versions }
 {}
