@@ -4,6 +4,7 @@ pub mod LocalLaws
 pub mod NamedLaws
 pub mod NodeReadLaws
 pub mod Numbers
+pub mod ReadLaws
 pub mod RegionLaws
 pub mod ShapeLaws
 pub mod SnapshotReadLaws
