@@ -1,6 +1,8 @@
 //! The manifest of a store on its device.
 #![tactic(auto)]
 
+mod extents;
+mod fault;
 mod fields;
 mod front;
 mod geometry;
