@@ -6,5 +6,9 @@ mod fault;
 mod fields;
 mod front;
 mod geometry;
+mod manifest;
 
 pub use geometry::read_geometry;
+pub use lt_layout::OpenFault;
+pub use lt_node::{Change, CommitFault, Trie};
+pub use manifest::Manifest;
