@@ -1,0 +1,3 @@
+pub mod ExtentLaws
+pub mod FaultLaws
+pub mod GeometryLaws

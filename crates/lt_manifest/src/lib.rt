@@ -1,0 +1,14 @@
+//! The manifest of a store on its device.
+#![tactic(auto)]
+
+mod extents;
+mod fault;
+mod fields;
+mod front;
+mod geometry;
+mod manifest;
+
+pub use geometry::read_geometry;
+pub use lt_layout::OpenFault;
+pub use lt_node::{Change, CommitFault, Trie};
+pub use manifest::Manifest;

@@ -1,0 +1,163 @@
+//! The manifest in memory: its header and trie, and the area of the device that is current.
+
+ghost use Rattle.std.specs.Prelude.{◌≡◌, ℕ, ◌≤◌, Some, Ok, Err, IfOk, IsErrOf, OnOk, IsTrue};
+ghost use Rattle.std.specs.Option.{ForSome};
+ghost use Rattle.lt_terms.specs.Bytes.{Image};
+ghost use Rattle.lt_terms.specs.Causes.{Rose};
+ghost use Rattle.lt_device.specs.Moments.{MayLeave, Leaves, ConfinedTo, UnsyncedIn};
+ghost use Rattle.lt_device.specs.Reads.{CountsAtMost};
+ghost use Rattle.lt_format.specs.Layout.{is_geometry, blocks_needed};
+ghost use Rattle.lt_format.specs.Snapshot.{extents_stand};
+ghost use Rattle.lt_format.specs.Naming.{InManifest, manifest_in, may_commit, after_commit};
+ghost use Rattle.lt_node.specs.Changing.{change_of};
+ghost use Rattle.lt_manifest.specs.Moments.{Names, HasNew, HasOldOrNew, EditsClosed, ShowsSameOutside};
+ghost use Rattle.lt_manifest.specs.Opened.{IsKept, IsOpened, InSnapshot, fresh};
+
+use lt_device::Device;
+use lt_format::{Geometry, Header};
+use lt_layout::OpenFault;
+use lt_node::{Change, CommitFault, Trie};
+use std::alloc::Global;
+use std::marker::Model;
+
+/// The manifest of a store.
+#[derive(Drop)]
+pub struct Manifest {
+    geometry: Geometry,
+    area: u8,
+    header: Header,
+    trie: Trie,
+}
+
+impl Model for Manifest {
+    ghost use Rattle.std.specs.Prelude.{◌≡◌};
+    ghost use Rattle.lt_format.specs.Naming.{Named};
+    ghost use Rattle.lt_manifest.specs.Opened.{IsKept, named_by};
+
+    ghost Value = { Named };
+
+    ghost view = { λ m. named_by m.geometry m.area m.header m.trie.nodes };
+
+    ghost invariant = { λ m. ⊥ };
+}
+
+impl Manifest {
+    /// Writes the snapshot of a store without tables to area 0, closes the edit gates of that area and
+    /// selects it. It does not sync.
+    pub fn format<D: Device>(
+        alloc: Global,
+        device: &mut D,
+        geometry: &Geometry,
+        extents: u32,
+    ) -> Result<(), CommitFault>
+        requires valid { IsTrue (is_geometry geometry.now) }
+        requires stands { IsTrue (extents_stand geometry.now (D.blocks device.old) extents) }
+        ensures named { OnOk result (ForSome (D.state device.new).shown (λ image. manifest_in geometry.now image ≡ Ok (fresh geometry.now extents))) }
+        ensures gates { OnOk result (ForSome (D.state device.new).shown (EditsClosed 0)) }
+
+        // Whatever it answers, it touches no other block and syncs nothing.
+        ensures confined { ConfinedTo InManifest (D.state device.old) (D.state device.new) }
+        ensures others { ShowsSameOutside InManifest (D.state device.old).shown (D.state device.new).shown }
+        ensures no_sync { (D.state device.new).past ≡ (D.state device.old).past }
+
+        ensures no_memory { IsErrOf result CommitFault.NoMemory → device.new ≡ device.old }
+        ensures size { D.blocks device.new ≡ D.blocks device.old }
+        ensures count { D.reads device.new ≡ D.reads device.old }
+        ensures later { D.faults device.old ≤ D.faults device.new }
+        ensures cause { IsErrOf result CommitFault.Device → Rose (D.faults device.old) (D.faults device.new) }
+    {
+        let _ = (alloc, extents, device.blocks());
+        let _ = geometry;
+        Err(CommitFault::NoMemory)
+    }
+
+    /// Reads the manifest of the area that is current.
+    ///
+    /// `Damaged` is the block of the first field of the snapshot that does not stand.
+    pub fn open<D: Device>(
+        alloc: Global,
+        device: &mut D,
+        geometry: &Geometry,
+    ) -> Result<Manifest, OpenFault>
+        requires valid { IsTrue (is_geometry geometry.now) }
+        requires room { blocks_needed geometry.now 0 ≤ D.blocks device.old }
+        ensures read { IfOk result (λ manifest. ForSome (D.state device.old).shown (λ image. manifest_in geometry.now image ≡ Ok manifest)) }
+
+        // Whatever the device tells.
+        ensures stands { IfOk result (IsOpened geometry.now (D.blocks device.old)) }
+
+        ensures damaged { (b : ℕ) → IsErrOf result (OpenFault.Damaged b) → ForSome (D.state device.old).shown (λ image. manifest_in geometry.now image ≡ Err b) }
+        ensures damaged_block { (b : ℕ) → IsErrOf result (OpenFault.Damaged b) → InSnapshot b }
+        ensures cause { IsErrOf result OpenFault.Device → Rose (D.faults device.old) (D.faults device.new) }
+        ensures later { D.faults device.old ≤ D.faults device.new }
+        ensures state { D.state device.new ≡ D.state device.old }
+        ensures size { D.blocks device.new ≡ D.blocks device.old }
+        ensures count { CountsAtMost 306 (D.reads device.old) (D.reads device.new) }
+    {
+        let _ = (alloc, device.blocks());
+        let _ = geometry;
+        Err(OpenFault::NoMemory)
+    }
+
+    pub fn header(&self) -> Header
+        ensures header { result ≡ self.now.manifest.header }
+        ensures kept { IsKept self.now }
+    {
+        self.header
+    }
+
+    pub fn trie(&self) -> &Trie
+        ensures nodes { result.now.nodes ≡ self.now.manifest.trie }
+        ensures levels { result.now.levels ≡ self.now.geometry.levels }
+        ensures kept { IsKept self.now }
+    {
+        &self.trie
+    }
+
+    /// Makes a change and a new header the store's.
+    ///
+    /// Memory is taken first: after `NoMemory` nothing was written, and the manifest is as before. After
+    /// `Device` the store is opened again.
+    pub fn commit<D: Device>(
+        &mut self,
+        alloc: Global,
+        device: &mut D,
+        change: &Change,
+        header: &Header,
+    ) -> Result<(), CommitFault>
+        requires stands { IsTrue (extents_stand self.old.geometry (D.blocks device.old) self.old.manifest.header.extents) }
+        requires may { IsTrue (may_commit self.old.geometry.levels self.old.manifest (change_of change.now) header.now) }
+
+        ensures geometry { self.new.geometry ≡ self.old.geometry }
+        ensures changed { OnOk result (self.new.manifest ≡ after_commit self.old.manifest (change_of change.now) header.now) }
+
+        // Each image since the start names the manifest as it was, or the new one.
+        ensures any_moment { (shown : Image) → (D.state device.old).shown ≡ Some shown
+            → ((left : Image) → MayLeave (D.state device.old) left → Names self.old left)
+            → Leaves (HasOldOrNew self.old (after_commit self.old.manifest (change_of change.now) header.now) shown) (D.state device.old) (D.state device.new) }
+
+        // After Ok only the latter.
+        ensures committed { OnOk result ((shown : Image) → (D.state device.old).shown ≡ Some shown
+            → ((left : Image) → MayLeave (D.state device.old) left → Names self.old left)
+            → (left : Image) → MayLeave (D.state device.new) left → HasNew self.new shown left) }
+        ensures gates { OnOk result ((left : Image) → MayLeave (D.state device.new) left → EditsClosed self.new.area left) }
+        ensures sure { OnOk result (UnsyncedIn (λ _. ⊥) (D.state device.new)) }
+
+        // Whatever it answers, it touches no other block.
+        ensures confined { ConfinedTo InManifest (D.state device.old) (D.state device.new) }
+        ensures others { ShowsSameOutside InManifest (D.state device.old).shown (D.state device.new).shown }
+
+        ensures no_memory { IsErrOf result CommitFault.NoMemory → device.new ≡ device.old }
+        ensures unchanged { IsErrOf result CommitFault.NoMemory → self.new ≡ self.old }
+        ensures size { D.blocks device.new ≡ D.blocks device.old }
+        ensures count { D.reads device.new ≡ D.reads device.old }
+        ensures later { D.faults device.old ≤ D.faults device.new }
+        ensures cause { IsErrOf result CommitFault.Device → Rose (D.faults device.old) (D.faults device.new) }
+    {
+        let _ = (alloc, device.blocks());
+        let _ = change;
+        let _ = header;
+        let _ = &self.area;
+        Err(CommitFault::NoMemory)
+    }
+}

@@ -1,0 +1,17 @@
+//! The trie of piles in memory, and what a commit changes of it.
+#![tactic(auto)]
+
+mod change;
+mod entry;
+mod fault;
+mod key_path;
+mod numbers;
+mod trie;
+
+pub use change::{Change, ChildChange, Children};
+pub use entry::NodeEntry;
+pub use fault::CommitFault;
+pub use key_path::path;
+pub use lt_format::{Header, NodeId};
+pub use numbers::Numbers;
+pub use trie::Trie;
