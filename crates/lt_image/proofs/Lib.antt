@@ -11,3 +11,5 @@ pub mod WholeLaws
 pub mod OpenLaws
 pub mod StandLaws
 pub mod PlacedLaws
+pub mod KeptLaws
+pub mod LocalLaws

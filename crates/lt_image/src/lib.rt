@@ -2,7 +2,9 @@
 #![tactic(auto)]
 
 mod flushing;
+mod keeping;
 mod looking;
 
 pub use flushing::flushes_stand;
+pub use keeping::{fresh_images_stand, logs_grow, named_blocks_tell};
 pub use looking::{paths_tell, tables_answer};

@@ -43,7 +43,7 @@ within_more : (x : ℕ) (ps qs : List ℕ) → AllByRecursion (λ p. is_in p ps 
 within_more x ps [] all = tt
 within_more x ps (q ∷ qs) all = (or_right (x == q) (is_in q ps) all.0, within_more x ps qs all.1)
 
-within_itself : (ps : List ℕ) → AllByRecursion (λ p. is_in p ps ≡ true) ps
+pub within_itself : (ps : List ℕ) → AllByRecursion (λ p. is_in p ps ≡ true) ps
 within_itself [] = tt
 within_itself (x ∷ ps) = (or_left (x == x) (is_in x ps) (eq-eqb x x refl), within_more x ps ps (within_itself ps))
 
