@@ -13,3 +13,4 @@ pub mod StandLaws
 pub mod PlacedLaws
 pub mod KeptLaws
 pub mod LocalLaws
+pub mod CountLaws

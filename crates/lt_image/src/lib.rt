@@ -5,6 +5,6 @@ mod flushing;
 mod keeping;
 mod looking;
 
-pub use flushing::flushes_stand;
+pub use flushing::{few_items_are_stored, flushes_stand};
 pub use keeping::{fresh_images_stand, logs_grow, named_blocks_tell};
 pub use looking::{paths_tell, tables_answer};
