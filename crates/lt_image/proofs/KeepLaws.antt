@@ -27,14 +27,14 @@ pub record KeepsTables (old new : ℕ → List Item) (trie : Trie) : Type 0 wher
 kept_pile : (old new : ℕ → List Item) (trie : Trie) (id : NodeId) (key : List ℕ) → KeepsTables old new trie → newest_of key (flat_map new (node_at trie id).tables) ≡ newest_of key (flat_map old (node_at trie id).tables)
 kept_pile old new trie id key k = (SameNewest-each new old (node_at trie id).tables (k.each id)).each key
 
-other_level : (a b : NodeId) → (a.level ≡ b.level → ⊥) → same_node a b ≡ false
+pub other_level : (a b : NodeId) → (a.level ≡ b.level → ⊥) → same_node a b ≡ false
 other_level a b apart = decide (same_node a b) refl
   where
     decide : (s : Bool) → same_node a b ≡ s → same_node a b ≡ false
     decide true e = absurd (apart (ap (λ (id : NodeId). id.level) (same_node-same a b e)))
     decide false e = e
 
-itself : (id : NodeId) → same_node id id ≡ true
+pub itself : (id : NodeId) → same_node id id ≡ true
 itself id = (eq_by_cmp_equiv node_total).refl id
 
 -- ---- on a path

@@ -14,3 +14,4 @@ pub mod PlacedLaws
 pub mod KeptLaws
 pub mod LocalLaws
 pub mod CountLaws
+pub mod RootLaws
