@@ -1,12 +1,12 @@
 -- How many items tables hold, before a flush and after it.
-use Rattle.std.proofs.Common.{◌≡◌, ℕ, zero, suc, ◌+◌, ◌<◌, ◌≤◌, refl, sym, ap, subst, ◌∙◌, List, [], ◌∷◌, ◌++◌, map, length, Bool, true, false, not, cond, Option, Some, None, Ok, arith, ne_eqb, eq-eqb}
-use Rattle.std.specs.Prelude.{◌==◌, nat_lt, IsTrue}
+use Rattle.std.proofs.Common.{◌≡◌, ℕ, zero, suc, ◌+◌, ◌<◌, ◌≤◌, refl, sym, ap, subst, ◌∙◌, List, [], ◌∷◌, length, Bool, true, false, not, cond, Option, Some, None, Ok, arith, ne_eqb, eq-eqb}
+use Rattle.std.specs.Prelude.{◌==◌, nat_lt}
 use Rattle.std.specs.declared.cmp.Ordering.{Ordering}
 use Rattle.std.specs.declared.cmp.Ordering.TheVariants.{Less, Equal, Greater}
 use Rattle.std.specs.Ordering.{is_eq}
 use Rattle.std.specs.FinMap.{find, put, is_sorted}
 use Rattle.std.specs.FinMap.Entries.{where_key, below_all, by_order}
-use Rattle.std.specs.List.{filter, flat_map, fold, range_with_len, AllZip}
+use Rattle.std.specs.List.{filter, flat_map, fold, range_with_len}
 use Rattle.std.specs.Option.{unwrap_or}
 use Rattle.std.proofs.lemmas.Bool.{and_parts, lt-ltb, ltb-true, ltb-false, le-ltb, eqb-true}
 use Rattle.std.proofs.lemmas.List.{length-append, length-map}
@@ -14,23 +14,22 @@ use Rattle.std.proofs.lemmas.List.Concat.{flat_map-append}
 use Rattle.lt_terms.specs.Bytes.{Image}
 use Rattle.lt_terms.specs.Hashes.{rank_cmp}
 use Rattle.lt_terms.specs.Items.{Item}
-use Rattle.lt_tables.specs.declared.ColumnPlan.{ColumnPlan}
 use Rattle.lt_tables.specs.Cut.{cut}
 use Rattle.lt_tables.specs.Merge.{newest, ranked}
 use Rattle.lt_tables.specs.Placement.{columns}
-use Rattle.lt_tables.specs.Table.{place_of, bucket_in, IsPlaced, table_items}
+use Rattle.lt_tables.specs.Table.{place_of, IsPlaced, table_items}
 use Rattle.lt_tables.proofs.FitLaws.{total}
 use Rattle.lt_tables.proofs.CutLaws.{cut-joined}
 use Rattle.lt_tables.proofs.TableLaws.{table_items-placed}
 use Rattle.lt_format.specs.declared.node_id.NodeId.{NodeId}
 use Rattle.lt_format.specs.declared.geometry.Geometry.{Geometry}
-use Rattle.lt_format.specs.Trie.{Node, Trie, root, node_cmp, same_node, node_at, with_node, named, empty_node}
+use Rattle.lt_format.specs.Trie.{Node, Trie, root, node_cmp, same_node, node_at, with_node, empty_node}
 use Rattle.lt_format.specs.Changes.{flush, appended, after_change}
 use Rattle.lt_format.proofs.TrieLaws.{same_node-same, node_exact, find-below, below-less, where_key-below}
 use Rattle.lt_image.specs.Opening.{Opened, open_image, log_items, number_of}
 use Rattle.lt_image.specs.Versions.{extent_in, items_at, pile_items, level_nodes, level_items, items_above, stored_items}
 use Rattle.lt_image.specs.Soundness.{bad_blocks}
-use Rattle.lt_image.specs.After.{SameExtents, Follows, PlacedIn, Flushes}
+use Rattle.lt_image.specs.After.{Follows, PlacedIn, Flushes}
 use Rattle.lt_image.proofs.KeptLaws.{items_above-same, stored-few}
 use Rattle.lt_image.proofs.OpenLaws.{opens-well}
 
@@ -98,7 +97,7 @@ placed_few : (items : List Item) (block : ℕ → List ℕ) → IsPlaced items b
 unfolding columns
 placed_few items block p =
     let spread_so : length (table_items block) ≡ spread (place_of p.plans) (newest items) 0 64 =
-      ap length (table_items-placed p.plans items block p.buckets) ∙ length-joined (λ c. filter (λ v. place_of p.plans v == c) (newest items)) (range_with_len 0 64) in
+    ap length (table_items-placed p.plans items block p.buckets) ∙ length-joined (λ c. filter (λ v. place_of p.plans v == c) (newest items)) (range_with_len 0 64) in
     omega (arith, spread_so, spread_few (place_of p.plans) (newest items) 0 64, newest-few items)
 
 parts_few : (g : Geometry) (image : Image) (tables : List ℕ) (parts : List (List Item)) → PlacedIn g image tables parts → length (pile_items g image tables) ≤ length (flat_map (λ part. part) parts)
@@ -195,6 +194,7 @@ one_more level n x = by_below (nat_lt level n) refl
       where
         different : (level == n) ≡ true → (level == n) ≡ false → ⊥
         different p q = cc
+
         above : n ≤ level → (level ≡ n → ⊥) → suc n ≤ level
         above past other = omega arith
 
@@ -230,7 +230,7 @@ after_flush g image trie tables deep rising =
     let empty : held_by g image g.levels (root, empty_node) ≡ 0 = rw first refl in
     let here : held_by g image g.levels (root, before) ≡ length (pile_items g image before.tables) = rw first refl in
     let there : held_by g image g.levels (root, appended before tables) ≡ length (pile_items g image before.tables) + length (pile_items g image tables) =
-      rw first (ap length (flat_map-append (items_at g image) before.tables tables) ∙ length-append (pile_items g image before.tables) (pile_items g image tables)) in
+    rw first (ap length (flat_map-append (items_at g image) before.tables tables) ∙ length-append (pile_items g image before.tables) (pile_items g image tables)) in
     omega (arith, above_long g image (with_node trie root (appended before tables)) g.levels, above_long g image trie g.levels, with_node-weight (held_by g image g.levels) trie root (appended before tables) rising empty, here, there)
 
 -- THE STORED ITEMS after a flush are at most the writes of the image before

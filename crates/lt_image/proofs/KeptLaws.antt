@@ -1,23 +1,23 @@
 -- What an image stands for while its manifest and the extents that this names are as before.
-use Rattle.std.proofs.Common.{◌≡◌, ℕ, zero, suc, ◌+◌, ◌*◌, ◌/◌, ◌-◌, ◌<◌, ◌≤◌, refl, sym, ap, subst, ◌∙◌, List, [], ◌∷◌, ◌++◌, length, Bool, true, false, not, cond, ◌&&◌, Result, Ok, arith, append_assoc, append-nil}
-use Rattle.std.specs.Prelude.{IsFalse, IsTrue, ◌==◌, nat_le, nat_lt}
-use Rattle.std.specs.List.{flat_map, filter, fold, AllByRecursion}
+use Rattle.std.proofs.Common.{◌≡◌, ℕ, zero, suc, ◌+◌, ◌≤◌, refl, sym, ap, subst, ◌∙◌, List, [], ◌∷◌, ◌++◌, length, Bool, true, false, cond, Ok, arith, append_assoc, append-nil}
+use Rattle.std.specs.Prelude.{◌==◌, nat_lt}
+use Rattle.std.specs.List.{flat_map, AllByRecursion}
 use Rattle.std.proofs.lemmas.List.{length-append}
 use Rattle.std.proofs.lemmas.List.Concat.{flat_map-append}
 use Rattle.std.proofs.lemmas.List.Sums.{fold-append}
 use Rattle.std.proofs.lemmas.Bool.{ltb-false}
-use Rattle.lt_terms.specs.Bytes.{Image, block_at}
+use Rattle.lt_terms.specs.Bytes.{Image}
 use Rattle.lt_terms.specs.Items.{Item}
-use Rattle.lt_terms.specs.Maps.{Map, empty_map, applied, after_items}
+use Rattle.lt_terms.specs.Maps.{empty_map, applied, after_items}
 use Rattle.lt_language.specs.Machine.{State, nothing_yet}
 use Rattle.lt_format.specs.declared.node_id.NodeId.{NodeId}
 use Rattle.lt_format.specs.declared.geometry.Geometry.{Geometry}
 use Rattle.lt_format.specs.Layout.{area_block}
 use Rattle.lt_format.specs.Trie.{Node, Trie, named, node_extents}
 use Rattle.lt_format.specs.Log.{items_in}
-use Rattle.lt_image.specs.Opening.{Opened, open_image, log_items, number_of}
-use Rattle.lt_image.specs.Versions.{extent_in, items_at, pile_items, level_nodes, level_items, items_above, stored_items, versions, map_of}
-use Rattle.lt_image.specs.Soundness.{bad_node_blocks, bad_blocks, block_if}
+use Rattle.lt_image.specs.Opening.{Opened, open_image, log_items}
+use Rattle.lt_image.specs.Versions.{extent_in, pile_items, level_nodes, level_items, items_above, stored_items, versions, map_of}
+use Rattle.lt_image.specs.Soundness.{bad_node_blocks, bad_blocks}
 use Rattle.lt_image.specs.Standing.{Stands, after_writes}
 use Rattle.lt_image.specs.After.{SameExtent, SameExtents, Keeps}
 use Rattle.lt_image.proofs.SoundLaws.{nil_append, nil_block_if}

@@ -1,7 +1,6 @@
 -- What an image stands for rests on the blocks that its manifest names.
-use Rattle.std.proofs.Common.{◌≡◌, ℕ, zero, suc, ◌+◌, ◌*◌, ◌/◌, ◌-◌, ◌<◌, ◌≤◌, refl, sym, ap, subst, ◌∙◌, List, [], ◌∷◌, ◌++◌, length, Bool, true, false, not, cond, ◌&&◌, Option, Result, Ok, arith}
-use Rattle.std.specs.Prelude.{IsFalse, ◌==◌, nat_le, nat_lt}
-use Rattle.std.specs.List.{AllByRecursion}
+use Rattle.std.proofs.Common.{◌≡◌, ℕ, zero, suc, ◌+◌, ◌*◌, ◌/◌, ◌-◌, ◌<◌, ◌≤◌, refl, sym, ap, subst, ◌∙◌, List, [], true, false, not, cond, ◌&&◌, Option, Result, Ok, arith}
+use Rattle.std.specs.Prelude.{IsFalse, nat_le, nat_lt}
 use Rattle.lt_terms.specs.Bytes.{Image, block_at}
 use Rattle.lt_terms.specs.Items.{Item}
 use Rattle.lt_language.specs.Machine.{State}
@@ -17,10 +16,10 @@ use Rattle.lt_format.specs.Snapshot.{◌>>=◌}
 use Rattle.lt_format.specs.Naming.{Named, manifest_of}
 use Rattle.lt_format.specs.Trie.{named}
 use Rattle.lt_format.proofs.ReadLaws.{ok_same, manifest_of-named}
-use Rattle.lt_image.specs.Opening.{Opened, open_image, log_items}
+use Rattle.lt_image.specs.Opening.{Opened, open_image}
 use Rattle.lt_image.specs.Standing.{Stands, is_free_block}
-use Rattle.lt_image.specs.After.{SameExtent, SameExtents, Keeps, SameNamed}
-use Rattle.lt_image.proofs.OpenLaws.{IsOpen, opens-is}
+use Rattle.lt_image.specs.After.{SameExtent, SameExtents, SameNamed}
+use Rattle.lt_image.proofs.OpenLaws.{opens-is}
 use Rattle.lt_image.proofs.KeptLaws.{log-same}
 
 -- ---- the log
@@ -44,8 +43,8 @@ log_from-same g old new b writes i (suc n) groups same =
     let here = same i (omega arith) (omega arith) in
     let first : first_open new (log_gate g b) (i + 1) n ≡ first_open old (log_gate g b) (i + 1) n = first_open-same old new (log_gate g b) (i + 1) n (λ k low high. (same k (omega arith) (omega arith)).0) in
     λ j. cond (is_open (here.0 j))
-      (read_with (with_group writes groups (group_on (here.1 j))) (log_content g b i) (λ more. log_from-same g old new b writes (i + 1) n more (λ k low high. same k (omega arith) (omega arith)) j))
-      (closed_from (first j) groups)
+    (read_with (with_group writes groups (group_on (here.1 j))) (log_content g b i) (λ more. log_from-same g old new b writes (i + 1) n more (λ k low high. same k (omega arith) (omega arith)) j))
+    (closed_from (first j) groups)
 
 log-slots : (m : Named) (old new : Image) → SameNamed m old new → (k : ℕ) → k < 0 + m.geometry.slots → Same old new (log_gate m.geometry m.manifest.header.log_area k) × Same old new (log_content m.geometry m.manifest.header.log_area k)
 log-slots m old new s k small = (s.log (log_gate m.geometry m.manifest.header.log_area k) (omega arith) (omega arith), s.log (log_content m.geometry m.manifest.header.log_area k) (omega arith) (omega arith))
@@ -88,5 +87,5 @@ pub not_free-named : (old new : Image) (m : Named) → manifest_of old ≡ Ok m 
 not_free-named old new m names same = record {
   log = λ n low high. sym (same n (log_not_free m n (manifest_of-named old m names).read.area high));
   kept = all_map (λ x. is_in x (named m.manifest.trie) ≡ true) (SameExtent m.geometry old new)
-    (λ x there c small. sym (same (extent_block m.geometry x + c) (extent_not_free m x c there small))) (named m.manifest.trie) (within_itself (named m.manifest.trie));
+      (λ x there c small. sym (same (extent_block m.geometry x + c) (extent_not_free m x c there small))) (named m.manifest.trie) (within_itself (named m.manifest.trie));
 }

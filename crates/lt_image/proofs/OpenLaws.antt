@@ -1,19 +1,17 @@
 -- What an image that opens gives: its manifest and its log, and what is true of them.
-use Rattle.std.proofs.Common.{◌≡◌, ℕ, zero, suc, ◌+◌, ◌-◌, ◌<◌, ◌≤◌, refl, sym, ap, subst, ◌∙◌, List, [], ◌∷◌, ◌++◌, length, drop, Bool, true, false, ◌&&◌, cond, Option, Some, None, Result, Ok, Err, arith}
-use Rattle.std.specs.Prelude.{IsTrue, ◌==◌, nat_le, nat_lt, slice_range}
+use Rattle.std.proofs.Common.{◌≡◌, ℕ, zero, suc, ◌+◌, ◌≤◌, refl, sym, subst, ◌∙◌, List, [], ◌∷◌, ◌++◌, drop, Bool, true, false, ◌&&◌, cond, Option, Some, None, Ok}
+use Rattle.std.specs.Prelude.{IsTrue, nat_le, slice_range}
 use Rattle.std.specs.FinMap.{is_sorted}
-use Rattle.std.specs.List.{AllByRecursion, flat_map, list_all}
-use Rattle.std.proofs.lemmas.Bool.{and_parts, leb-true, eqb-true, ne_eqb}
+use Rattle.std.proofs.lemmas.Bool.{and_parts, leb-true}
 use Rattle.std.proofs.lemmas.List.Concat.{flat_map-append}
 use Rattle.lt_terms.specs.Bytes.{Image, block_at, u16_at, all_zero}
 use Rattle.lt_terms.specs.Items.{Item, items_of}
 use Rattle.lt_tables.proofs.ValidLaws.{AllValid, AllValid-append, items_of-valid}
-use Rattle.lt_format.specs.declared.node_id.NodeId.{NodeId}
 use Rattle.lt_format.specs.declared.geometry.Geometry.{Geometry}
 use Rattle.lt_format.specs.Layout.{is_geometry, is_open, log_gate, log_content, first_open, closed_from}
 use Rattle.lt_format.specs.Log.{group_room, group_on, items_in, log_fits, with_group, read_with, log_from, log_groups}
-use Rattle.lt_format.specs.Trie.{Node, Trie, root, node_cmp, node_at, is_node, is_last_level, is_shaped, IsTrie}
-use Rattle.lt_format.specs.Naming.{Named, manifest_of}
+use Rattle.lt_format.specs.Trie.{root, node_cmp, node_at, IsTrie}
+use Rattle.lt_format.specs.Naming.{manifest_of}
 use Rattle.lt_format.proofs.ReadLaws.{bind_ok, ok_same, manifest_of-named}
 use Rattle.lt_image.specs.Opening.{Opened, open_image, log_items}
 use Rattle.lt_image.proofs.RootLaws.{root-bare}

@@ -1,12 +1,12 @@
 -- A trie with no node but the root: the tables on each path and the extents that it names are the root's pile.
-use Rattle.std.proofs.Common.{◌≡◌, ℕ, zero, suc, ◌+◌, ◌<◌, ◌≤◌, refl, sym, ap, subst, ◌∙◌, List, [], ◌∷◌, ◌++◌, map, reverse, length, Bool, true, false, cond, ◌&&◌, Option, Some, None, arith, append-nil, true≢false}
+use Rattle.std.proofs.Common.{◌≡◌, ℕ, zero, suc, ◌+◌, ◌≤◌, refl, sym, ap, subst, ◌∙◌, List, [], ◌∷◌, ◌++◌, length, true, false, cond, Some, None, arith, append-nil, true≢false}
 use Rattle.std.specs.Prelude.{IsTrue}
 use Rattle.std.specs.Ordering.{is_lt, is_eq}
 use Rattle.std.specs.declared.cmp.Ordering.{Ordering}
 use Rattle.std.specs.declared.cmp.Ordering.TheVariants.{Less, Equal, Greater}
 use Rattle.std.specs.FinMap.{find, is_sorted}
 use Rattle.std.specs.FinMap.Entries.{below_all}
-use Rattle.std.specs.List.{flat_map, list_all, range_with_len, enumerate_from, AllByRecursion}
+use Rattle.std.specs.List.{flat_map, range_with_len, AllByRecursion}
 use Rattle.std.specs.Option.{unwrap_or}
 use Rattle.std.proofs.lemmas.Bool.{and_parts, and_from, ne_eqb}
 use Rattle.lt_format.specs.declared.node_id.NodeId.{NodeId}
@@ -14,7 +14,7 @@ use Rattle.lt_format.specs.Trie.{Node, Trie, root, path, node_cmp, same_node, no
 use Rattle.lt_format.specs.Changes.{flush, appended, after_change}
 use Rattle.lt_format.proofs.TrieLaws.{same_node-same}
 use Rattle.lt_format.proofs.ShapeLaws.{shaped-inner, node_at-shaped}
-use Rattle.lt_image.specs.OnPath.{Stop, stops_of, stops, has_only_root}
+use Rattle.lt_image.specs.OnPath.{stops_of, stops, has_only_root}
 use Rattle.lt_image.proofs.ChangeLaws.{with_node-all, path-root, tables-flush}
 use Rattle.lt_image.proofs.KeepLaws.{other_level, itself}
 
