@@ -1,5 +1,6 @@
 pub mod ChildLaws
 pub mod KeepLaws
+pub mod LocalLaws
 pub mod NamedLaws
 pub mod NodeReadLaws
 pub mod Numbers

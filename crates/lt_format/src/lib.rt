@@ -16,5 +16,5 @@ pub use header::Header;
 pub use laws::regions_are_apart;
 pub use node_id::NodeId;
 pub use read_laws::read_manifests_stand;
-pub use snapshot_laws::snapshots_are_read_again;
+pub use snapshot_laws::{manifests_are_local, snapshots_are_read_again};
 pub use trie_laws::{changes_keep_tries, extents_suffice, nodes_may_be_set};

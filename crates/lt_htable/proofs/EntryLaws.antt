@@ -24,18 +24,11 @@ use Rattle.lt_tables.specs.Placement.{entry_of, placement_of, has_placement}
 use Rattle.lt_tables.specs.Table.{place_of, bucket_in}
 use Rattle.lt_tables.proofs.HashLaws.{home_column-small}
 use Rattle.lt_tables.proofs.FitLaws.{total, total-add}
-use Rattle.lt_tables.proofs.PlanLaws.{placement-fits}
+use Rattle.lt_tables.proofs.NewestLaws.{first, second}
+use Rattle.lt_tables.proofs.PlanLaws.{placement-fits, step_cost}
 use Rattle.lt_tables.proofs.RankedLaws.{newest-ranked}
 use Rattle.lt_tables.proofs.TableLaws.{Fits, PlansFit}
 use Rattle.lt_balance.specs.Entries.{AreEntries}
-
-first : (a b : Bool) → T (a && b) → T a
-first true b p = tt
-first false b p = absurd p
-
-second : (a b : Bool) → T (a && b) → T b
-second true b p = p
-second false b p = absurd p
 
 -- ---- in order of suffix
 
@@ -68,13 +61,9 @@ ranked-order items s k d below =
 
 -- ---- few
 
-cost_step : (b : Bool) (v : Item) (xs : List Item) (n : ℕ) → total_cost xs ≡ n → total_cost (cond b (v ∷ xs) xs) ≡ cond b (item_cost v) 0 + n
-cost_step true v xs n h = sum_by-cons item_cost v xs ∙ ap (λ m. item_cost v + m) h
-cost_step false v xs n h = h ∙ (let z : n ≡ 0 + n = omega arith in z)
-
 cost-filter : (test : Item → Bool) (xs : List Item) → total_cost (filter test xs) ≡ total (λ v. cond (test v) (item_cost v) 0) xs
 cost-filter test [] = refl
-cost-filter test (v ∷ xs) = cost_step (test v) v (filter test xs) _ (cost-filter test xs)
+cost-filter test (v ∷ xs) = step_cost (test v) v (filter test xs) _ (cost-filter test xs)
 
 -- one item costs in one of the columns
 in_one : (p cost a n : ℕ) → a ≤ p → p < a + n → cost ≤ total (λ c. cond (p == c) cost 0) (range_with_len a n)
@@ -140,17 +129,21 @@ has_plans items h = by_option (placement_of items) refl h
     by_option None is h = absurd (true≢false (sym h))
     by_option (Some plans) is h = (plans, is)
 
--- valid items in rank order that have a placement
+-- valid items in rank order that are few
+pub few-are_entries : (items : List Item) → newest items ≡ items → list_all is_valid items ≡ true → length items < 4294967296 → AreEntries (map entry_of items)
+few-are_entries items ranked valid short = record {
+    columns = All-from_recursion (λ (e : Entry). e.column < 64) (map entry_of items) (each_entry (λ (e : Entry). e.column < 64) items (λ v ok. home_column-small v.key) valid);
+    costs = All-from_recursion (λ (e : Entry). e.cost ≤ capacity) (map entry_of items) (each_entry (λ (e : Entry). e.cost ≤ capacity) items (λ v ok. cost-small v ok) valid);
+    order = IsNonDecreasingBy-from_all_adjacent (λ (e : Entry). e.suffix) (map entry_of items) (ranked-order items (subst (λ xs. T (is_ranked xs)) ranked (newest-ranked items)));
+    few = let long = length-map items entry_of in omega arith;
+  }
+
+-- or that have a placement
 pub items-are_entries : (items : List Item) → newest items ≡ items → list_all is_valid items ≡ true → has_placement (map entry_of items) ≡ true → AreEntries (map entry_of items)
 items-are_entries items ranked valid placed =
     let plans = has_plans items placed in
     let short = few plans.0 items ranked (placement-fits items plans.0 plans.1 ranked valid) in
-    record {
-      columns = All-from_recursion (λ (e : Entry). e.column < 64) (map entry_of items) (each_entry (λ (e : Entry). e.column < 64) items (λ v ok. home_column-small v.key) valid);
-      costs = All-from_recursion (λ (e : Entry). e.cost ≤ capacity) (map entry_of items) (each_entry (λ (e : Entry). e.cost ≤ capacity) items (λ v ok. cost-small v ok) valid);
-      order = IsNonDecreasingBy-from_all_adjacent (λ (e : Entry). e.suffix) (map entry_of items) (ranked-order items (subst (λ xs. T (is_ranked xs)) ranked (newest-ranked items)));
-      few = let long = length-map items entry_of in omega arith;
-    }
+    few-are_entries items ranked valid (omega arith)
 
 -- ---- buckets that fit
 

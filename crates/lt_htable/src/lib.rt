@@ -16,3 +16,4 @@ pub use faults::{BuildFault, LookFault, ScanFault};
 pub use filters::read_filters;
 pub use lookup::look;
 pub use scanning::scan;
+pub use summary::entries_of;

@@ -1,10 +1,12 @@
 //! What a list of items asks of its table: its entries and its filters.
 
-ghost use Rattle.std.specs.Prelude.{◌≡◌, IfOk, IsTrue, map};
+ghost use Rattle.std.specs.Prelude.{◌≡◌, ◌<◌, ◌^◌, IfOk, IsTrue, length, map};
 ghost use Rattle.std.specs.List.{list_all};
 ghost use Rattle.lt_terms.specs.Items.{is_valid};
 ghost use Rattle.lt_tables.specs.Filter.{filter_block};
+ghost use Rattle.lt_tables.specs.Merge.{newest};
 ghost use Rattle.lt_tables.specs.Placement.{entry_of};
+ghost use Rattle.lt_balance.specs.Entries.{AreEntries};
 
 use lt_balance::Entry;
 use lt_bloom::FilterPage;
@@ -26,10 +28,13 @@ pub(super) fn filters_of(alloc: Global, items: &[Item]) -> Result<FilterPage, No
     Ok(filters)
 }
 
-/// What the placement asks of these items.
-pub(super) fn entries_of(alloc: Global, items: &[Item]) -> Result<Vec<Entry>, NoMemory>
+/// What the placement and the cut ask of these items: an entry for each, in their order.
+pub fn entries_of(alloc: Global, items: &[Item]) -> Result<Vec<Entry>, NoMemory>
     ensures entries { IfOk result (λ entries. entries.items ≡ map entry_of items.now) }
     ensures valid { IfOk result (λ _. IsTrue (list_all is_valid items.now)) }
+
+    // Of items in rank order, each key once, they may be placed and cut.
+    ensures entries_are { IfOk result (λ entries. newest items.now ≡ items.now → length items.now < 2 ^ 32 → AreEntries entries.items) }
 {
     let mut entries = Vec::with_capacity(alloc, items.len())?;
     for item in items {

@@ -13,7 +13,8 @@ use Rattle.lt_terms.specs.Items.{Item}
 use Rattle.lt_terms.specs.Maps.{value_at}
 use Rattle.lt_tables.specs.Merge.{versions_of, newest_of, value_of}
 use Rattle.lt_tables.proofs.RankLaws.{newest_or}
-use Rattle.lt_tables.proofs.NewestLaws.{newest_of-append, newest_or-none}
+use Rattle.lt_tables.proofs.NewestLaws.{newest_of-append}
+use Rattle.lt_tables.proofs.RankLaws.{newest_or-none}
 use Rattle.lt_tables.proofs.VersionLaws.{get_versions}
 use Rattle.lt_format.specs.declared.node_id.NodeId.{NodeId}
 use Rattle.lt_format.specs.declared.geometry.Geometry.{Geometry}

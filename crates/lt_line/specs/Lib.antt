@@ -1,3 +1,4 @@
 pub mod Buffer
 pub mod Held
 pub mod View
+pub mod Waiting

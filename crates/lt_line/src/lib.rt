@@ -1,9 +1,11 @@
-//! The line language: lines out of pieces of any size, and the command that a line is.
+//! The line language: lines out of pieces of any size, the command that a line is, and the replies that
+//! wait to be written.
 #![tactic(auto)]
 
 mod command;
 mod laws;
 mod lines;
+mod replies;
 #[cfg(test)]
 mod tests;
 
@@ -11,3 +13,4 @@ pub use command::{Command, read_command};
 pub use laws::kept_is_enough;
 pub use lines::Lines;
 pub use lt_language::Bad;
+pub use replies::Replies;

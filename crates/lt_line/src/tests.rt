@@ -109,3 +109,51 @@ fn a_long_line_in_two_pieces_is_refused(rt: HostRuntime) -> Result<(), NoMemory>
     assert_eq!(rt; lines.command(), Command::Bad(Bad::Long));
     Ok(())
 }
+
+/// Drops the settled bytes one after another, as a sink that takes one byte at a time has it, and answers
+/// how many there were.
+fn drop_one_by_one(replies: &mut Replies) -> usize {
+    let mut count = 0usize;
+    for _ in 0..1 << 16 {
+        if replies.settled().is_empty() {
+            break;
+        }
+        replies.drop_front(1);
+        count = count.saturating_add(1);
+    }
+    count
+}
+
+/// Adds a text if there is room, and answers the room that is left.
+fn add_if_it_fits(replies: &mut Replies, text: &[u8]) -> usize {
+    if text.len() <= replies.room() {
+        replies.add(text);
+    }
+    replies.room()
+}
+
+#[test]
+fn settled_replies_are_dropped_and_their_room_comes_back(
+    rt: HostRuntime,
+) -> Result<(), NoMemory> {
+    let mut replies = Replies::new(rt.alloc())?;
+    let text = vec![in rt.alloc(); b'x'; 40_000]?;
+    assert_eq!(rt; add_if_it_fits(&mut replies, &text), 25_536);
+    assert_eq!(rt; replies.settled(), b"".as_slice());
+    replies.settle();
+    assert_eq!(rt; add_if_it_fits(&mut replies, b"OK\n"), 25_533);
+    assert_eq!(rt; drop_one_by_one(&mut replies), 40_000);
+
+    // The text that is left goes to the front before the long one is added.
+    assert_eq!(rt; add_if_it_fits(&mut replies, &text), 25_533);
+    replies.settle();
+    assert!(rt; replies.settled().starts_with(b"OK\nx"));
+
+    add_if_it_fits(&mut replies, b"BAD key\n");
+    replies.drop_unsettled();
+    assert_eq!(rt; replies.room(), 25_533);
+    replies.settle();
+    assert_eq!(rt; drop_one_by_one(&mut replies), 40_003);
+    assert_eq!(rt; replies.room(), 65_536);
+    Ok(())
+}

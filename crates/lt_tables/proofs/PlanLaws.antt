@@ -34,7 +34,7 @@ placement-sendings items plans h = by_sendings (sendings (map entry_of items) (s
     by_sendings None is h = absurd (none-some plans h)
     by_sendings (Some made) is h = record { made = made; sent = is; plans_are = cc }
 
-step_cost : (b : Bool) (v : Item) (xs : List Item) (n : ℕ) → total_cost xs ≡ n → total_cost (cond b (v ∷ xs) xs) ≡ cond b (item_cost v) 0 + n
+pub step_cost : (b : Bool) (v : Item) (xs : List Item) (n : ℕ) → total_cost xs ≡ n → total_cost (cond b (v ∷ xs) xs) ≡ cond b (item_cost v) 0 + n
 step_cost true v xs n h = sum_by-cons item_cost v xs ∙ ap (λ m. item_cost v + m) h
 step_cost false v xs n h = h ∙ (let z : n ≡ 0 + n = omega arith in z)
 

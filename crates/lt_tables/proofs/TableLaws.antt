@@ -14,7 +14,7 @@ use Rattle.lt_tables.specs.Placement.{columns}
 use Rattle.lt_tables.specs.Merge.{versions_of, newest_of, newest}
 use Rattle.lt_tables.specs.Table.{place_of, bucket_in, table_items}
 use Rattle.lt_tables.specs.Alike.{SameNewest, HasOnce}
-use Rattle.lt_tables.proofs.NewestLaws.{filters_swap, versions_of-newest}
+use Rattle.lt_tables.proofs.NewestLaws.{filters_swap, last_of_option, versions_of-newest}
 
 -- what a bucket asks
 pub record Fits (b : Bucket) : Type 0 where
@@ -87,10 +87,6 @@ versions_of-placed plans items block key within buckets =
     ∙ versions_spread key (place_of plans) (newest items) columns
     ∙ ap (λ xs. flat_map (λ c. filter (λ v. place_of plans v == c) xs) columns) (versions_of-newest key items)
     ∙ option_spread (place_of plans) (newest_of key items) within
-
-last_of_option : (o : Option Item) → last_or None (option_to_list o) ≡ o
-last_of_option None = refl
-last_of_option (Some v) = refl
 
 -- A PLACED TABLE holds what was placed
 pub SameNewest-placed : (plans : List ColumnPlan) (items : List Item) (block : ℕ → List ℕ) → ((v : Item) → place_of plans v < 64) → ((c : ℕ) → c < 64 → bucket_of (block c) ≡ Some (bucket_in plans items c)) → SameNewest (table_items block) items
