@@ -122,8 +122,8 @@ node_ok bytes limit levels extents last_id before at r once h =
     let is : ((id, node), groups.0.1) ≡ r = ok_same ((id, node), groups.0.1) r groups.2 in
     subst (λ (q : (NodeId × Node) × ℕ). IsNext levels extents last_id before q.0) is (record {
       fine = and_from (is_node levels id && nat_le 1 (length tables.0.0)) (is_shaped levels extents id node)
-        (and_from (is_node levels id) (nat_le 1 (length tables.0.0)) (and_from (nat_lt l levels) (nat_lt number.0.0 (8 ^ l)) in_level named_next.0) (subst (λ n. nat_le 1 n ≡ true) (sym new_tables.count) some.0))
-        (shaped (l + 1 == levels) extents base.0.0 (length tables.0.0) (length groups.0.0) small_base
+          (and_from (is_node levels id) (nat_le 1 (length tables.0.0)) (and_from (nat_lt l levels) (nat_lt number.0.0 (8 ^ l)) in_level named_next.0) (subst (λ n. nat_le 1 n ≡ true) (sym new_tables.count) some.0))
+          (shaped (l + 1 == levels) extents base.0.0 (length tables.0.0) (length groups.0.0) small_base
           (subst (λ n. (n == cond (l + 1 == levels) (groups_for (length tables.0.0)) 0) ≡ true) (sym new_groups.count) (subst (λ n. (groups_len.0.0 == cond (l + 1 == levels) (groups_for n) 0) ≡ true) (sym new_tables.count) as_many)));
       comes = named_next.1;
       fresh = joined_fresh extents tables.0.0 groups.0.0 before new_tables.fresh new_groups.fresh;

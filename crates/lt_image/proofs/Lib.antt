@@ -11,3 +11,7 @@ pub mod WholeLaws
 pub mod OpenLaws
 pub mod StandLaws
 pub mod PlacedLaws
+pub mod KeptLaws
+pub mod LocalLaws
+pub mod CountLaws
+pub mod RootLaws

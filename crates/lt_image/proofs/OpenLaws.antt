@@ -1,22 +1,20 @@
 -- What an image that opens gives: its manifest and its log, and what is true of them.
-use Rattle.std.proofs.Common.{◌≡◌, ℕ, zero, suc, ◌+◌, ◌-◌, ◌<◌, ◌≤◌, refl, sym, ap, subst, ◌∙◌, List, [], ◌∷◌, ◌++◌, length, drop, Bool, true, false, ◌&&◌, cond, Option, Some, None, Result, Ok, Err, arith}
-use Rattle.std.specs.Prelude.{IsTrue, ◌==◌, nat_le, nat_lt, slice_range}
+use Rattle.std.proofs.Common.{◌≡◌, ℕ, zero, suc, ◌+◌, ◌≤◌, refl, sym, subst, ◌∙◌, List, [], ◌∷◌, ◌++◌, drop, Bool, true, false, ◌&&◌, cond, Option, Some, None, Ok}
+use Rattle.std.specs.Prelude.{IsTrue, nat_le, slice_range}
 use Rattle.std.specs.FinMap.{is_sorted}
-use Rattle.std.specs.List.{AllByRecursion, flat_map, list_all}
-use Rattle.std.proofs.lemmas.Bool.{and_parts, leb-true, eqb-true, ne_eqb}
+use Rattle.std.proofs.lemmas.Bool.{and_parts, leb-true}
 use Rattle.std.proofs.lemmas.List.Concat.{flat_map-append}
 use Rattle.lt_terms.specs.Bytes.{Image, block_at, u16_at, all_zero}
 use Rattle.lt_terms.specs.Items.{Item, items_of}
 use Rattle.lt_tables.proofs.ValidLaws.{AllValid, AllValid-append, items_of-valid}
-use Rattle.lt_format.specs.declared.node_id.NodeId.{NodeId}
 use Rattle.lt_format.specs.declared.geometry.Geometry.{Geometry}
 use Rattle.lt_format.specs.Layout.{is_geometry, is_open, log_gate, log_content, first_open, closed_from}
 use Rattle.lt_format.specs.Log.{group_room, group_on, items_in, log_fits, with_group, read_with, log_from, log_groups}
-use Rattle.lt_format.specs.Trie.{Node, Trie, root, node_cmp, node_at, is_node, is_last_level, is_shaped, IsTrie}
-use Rattle.lt_format.specs.Naming.{Named, manifest_of}
+use Rattle.lt_format.specs.Trie.{root, node_cmp, node_at, IsTrie}
+use Rattle.lt_format.specs.Naming.{manifest_of}
 use Rattle.lt_format.proofs.ReadLaws.{bind_ok, ok_same, manifest_of-named}
 use Rattle.lt_image.specs.Opening.{Opened, open_image, log_items}
-use Rattle.lt_format.proofs.ShapeLaws.{shaped-inner, node_at-shaped}
+use Rattle.lt_image.proofs.RootLaws.{root-bare}
 
 -- an image that opens has a manifest, and a log that this names
 pub record IsOpen (image : Image) (o : Opened) : Type 0 where
@@ -86,18 +84,13 @@ pub record IsWell (o : Opened) : Type 0 where
 geometry_levels : (g : Geometry) → is_geometry g ≡ true → nat_le 2 g.levels ≡ true
 geometry_levels g h = (and_parts (nat_le 2 g.levels) (nat_le g.levels 5) (and_parts _ (nat_le 1 g.slots) (and_parts _ (nat_le g.slots 512) h).0).0).0
 
-nothing : (xs : List ℕ) → length xs ≡ 0 → xs ≡ []
-nothing [] h = refl
-nothing (x ∷ xs) h = absurd (omega arith)
-
 pub opens-well : (image : Image) (o : Opened) → open_image image ≡ Ok o → IsWell o
 opens-well image o h =
     let n = manifest_of-named image o.named (opens-is image o h).named in
     let t : IsTrie o.named.geometry.levels o.named.manifest.header.extents o.named.manifest.trie = n.read.trie in
     let deep : 2 ≤ o.named.geometry.levels = leb-true 2 o.named.geometry.levels (geometry_levels o.named.geometry n.geometry) in
-    let inner : is_last_level o.named.geometry.levels root ≡ false = ne_eqb (0 + 1) o.named.geometry.levels (λ e. absurd (omega arith)) in
     record {
       levels = deep;
       rising = t.rising;
-      bare = nothing (node_at o.named.manifest.trie root).groups (shaped-inner o.named.geometry.levels o.named.manifest.header.extents root (node_at o.named.manifest.trie root) inner (node_at-shaped o.named.geometry.levels o.named.manifest.header.extents o.named.manifest.trie root t.nodes)).1;
+      bare = root-bare o.named.geometry.levels o.named.manifest.header.extents o.named.manifest.trie deep t;
     }

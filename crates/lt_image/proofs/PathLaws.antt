@@ -1,13 +1,10 @@
 -- The newest of all versions of a key is what a search along one path finds first.
 use Rattle.std.proofs.Common.{◌≡◌, ℕ, zero, suc, ◌+◌, refl, sym, ap, subst, ◌∙◌, List, [], ◌∷◌, ◌++◌, map, reverse, Bool, true, false, cond, ◌&&◌, Option, Some, None, arith, append-nil, true≢false, eq-eqb, eqb-true}
-use Rattle.std.specs.Prelude.{T, ◌==◌, IsTrue}
-use Rattle.std.specs.declared.cmp.Ordering.{Ordering}
-use Rattle.std.specs.declared.cmp.Ordering.TheVariants.{Less, Equal, Greater}
-use Rattle.std.specs.Ordering.{eq_by_cmp, is_eq, is_lt, nat_cmp, ordering_then}
-use Rattle.std.specs.FinMap.{find, is_sorted, nat_cmp-IsAntisymmetric}
+use Rattle.std.specs.Prelude.{T, ◌==◌}
+use Rattle.std.specs.FinMap.{find, is_sorted}
 use Rattle.std.specs.FinMap.Entries.{below_all}
 use Rattle.std.specs.Cmp.Lexicographic.{bytes_decides}
-use Rattle.std.specs.List.{last_or, filter, flat_map, AllByRecursion, range_with_len, enumerate_from}
+use Rattle.std.specs.List.{last_or, flat_map, AllByRecursion, range_with_len, enumerate_from}
 use Rattle.std.specs.Option.{option_or, unwrap_or}
 use mathlib.Core.List.{reverse-cons}
 use Rattle.std.proofs.lemmas.List.Concat.{flat_map-append}
@@ -23,7 +20,7 @@ use Rattle.lt_format.specs.declared.node_id.NodeId.{NodeId}
 use Rattle.lt_format.specs.declared.geometry.Geometry.{Geometry}
 use Rattle.lt_format.specs.Trie.{Node, Trie, path, same_node, node_cmp, node_at, empty_node}
 use Rattle.lt_format.proofs.TrieLaws.{same_node-same, find-below}
-use Rattle.lt_image.specs.OnPath.{Stop, stops, stops_of}
+use Rattle.lt_image.specs.OnPath.{Stop, stops_of}
 use Rattle.lt_image.specs.Opening.{Opened, log_items}
 use Rattle.lt_image.specs.Versions.{items_at, items_above, level_nodes, versions, map_of}
 use Rattle.lt_image.specs.OnPath.{first_some, at_stops, found}

@@ -1,10 +1,9 @@
 -- Each table that a sound image names is placed, and its filters cover its keys.
-use Rattle.std.proofs.Common.{◌≡◌, ℕ, zero, suc, ◌+◌, ◌<◌, ◌≤◌, refl, sym, ap, subst, ◌∙◌, List, [], ◌∷◌, ◌++◌, Bool, true, false, not, cond, ◌||◌, Option, Some, None, Ok, arith, ⊎_elim, true≢false}
-use Rattle.std.specs.Prelude.{IsTrue, IsFalse, All}
+use Rattle.std.proofs.Common.{◌≡◌, ℕ, zero, suc, ◌+◌, ◌<◌, ◌≤◌, refl, sym, ap, ◌∙◌, List, [], ◌∷◌, Bool, true, false, not, cond, ◌||◌, Option, Some, None, arith, ⊎_elim, true≢false}
+use Rattle.std.specs.Prelude.{IsFalse}
 use Rattle.std.specs.List.{filter, flat_map, list_any, range_with_len, AllByRecursion, enumerate_from, last_or}
 use Rattle.std.specs.Cmp.Lexicographic.{bytes_decides}
 use Rattle.std.proofs.lemmas.Bool.{cases_eq, not-false}
-use Rattle.std.proofs.lemmas.List.Elements.{All-from_recursion}
 use Rattle.lt_terms.specs.Bytes.{Image, same_bytes}
 use Rattle.lt_terms.specs.Hashes.{home_column}
 use Rattle.lt_terms.specs.Items.{Item}
@@ -19,9 +18,9 @@ use Rattle.lt_format.specs.declared.node_id.NodeId.{NodeId}
 use Rattle.lt_format.specs.declared.geometry.Geometry.{Geometry}
 use Rattle.lt_format.specs.Layout.{extent_block}
 use Rattle.lt_format.specs.Trie.{Node, node_at}
-use Rattle.lt_image.specs.Opening.{Opened, open_image}
+use Rattle.lt_image.specs.Opening.{Opened}
 use Rattle.lt_image.specs.Versions.{extent_in, items_at}
-use Rattle.lt_image.specs.Soundness.{block_if, spells, located_items, stray_columns, misplaced_columns, bad_in_table, bad_table_blocks, bad_group_blocks, bad_node_blocks, bad_blocks}
+use Rattle.lt_image.specs.Soundness.{block_if, spells, misplaced_columns, bad_in_table, bad_table_blocks, bad_group_blocks, bad_node_blocks, bad_blocks}
 use Rattle.lt_image.proofs.SoundLaws.{nil_append, nil_map, nil_flat_map, nil_block_if, all_map}
 use Rattle.lt_image.proofs.SpellsLaws.{spells-reads}
 use Rattle.lt_image.proofs.AfterLaws.{node_at-holds, sound_nodes}
@@ -32,6 +31,7 @@ nothing_kept test a (suc n) c e low high = step (test a) refl e (λ rest more. n
   where
     above : (a ≡ c → ⊥) → a + 1 ≤ c
     above other = omega arith
+
     step : (b : Bool) → test a ≡ b → cond b (a ∷ filter test (range_with_len (a + 1) n)) (filter test (range_with_len (a + 1) n)) ≡ [] → (filter test (range_with_len (a + 1) n) ≡ [] → a + 1 ≤ c → test c ≡ false) → test c ≡ false
     step true t e ih = cc
     step false t e ih = ⊎_elim (λ (is : a ≡ c). ap test (sym is) ∙ t) (λ (other : a ≡ c → ⊥). ih e (above other)) (cases_eq a c)

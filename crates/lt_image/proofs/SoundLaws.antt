@@ -1,8 +1,8 @@
 -- What a sound image gives: each table holds only items that lead to its node.
-use Rattle.std.proofs.Common.{◌≡◌, ℕ, zero, suc, ◌+◌, refl, sym, ap, subst, ◌∙◌, List, [], ◌∷◌, ◌++◌, map, length, Bool, true, false, not, cond, ◌||◌, Option, Some, None}
-use Rattle.std.specs.Prelude.{T, IsTrue, nat_lt}
+use Rattle.std.proofs.Common.{◌≡◌, ℕ, ◌+◌, refl, ap, subst, ◌∙◌, List, [], ◌∷◌, ◌++◌, map, Bool, true, false, not, ◌||◌}
+use Rattle.std.specs.Prelude.{IsTrue}
 use Rattle.std.specs.FinMap.{is_sorted}
-use Rattle.std.specs.List.{flat_map, filter, list_any, AllByRecursion, enumerate_from}
+use Rattle.std.specs.List.{flat_map, list_any, AllByRecursion, enumerate_from}
 use Rattle.std.proofs.lemmas.Bool.{or_parts, not-false}
 use Rattle.lt_terms.specs.Bytes.{Image, same_bytes}
 use Rattle.lt_terms.specs.Items.{Item}
@@ -14,8 +14,8 @@ use Rattle.lt_tables.specs.Merge.{newest, newest_of, value_of}
 use Rattle.lt_format.specs.declared.node_id.NodeId.{NodeId}
 use Rattle.lt_format.specs.declared.geometry.Geometry.{Geometry}
 use Rattle.lt_format.specs.Layout.{extent_block}
-use Rattle.lt_format.specs.Trie.{Node, Trie, path, same_node, node_cmp}
-use Rattle.lt_image.specs.Opening.{Opened, log_items}
+use Rattle.lt_format.specs.Trie.{Node, path, same_node, node_cmp}
+use Rattle.lt_image.specs.Opening.{Opened}
 use Rattle.lt_image.specs.Versions.{extent_in, items_at, versions, map_of}
 use Rattle.lt_image.specs.Soundness.{block_if, located_items, stray_columns, bad_in_table, bad_table_blocks, bad_group_blocks, bad_node_blocks, bad_blocks}
 use Rattle.lt_image.specs.OnPath.{found}

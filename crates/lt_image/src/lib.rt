@@ -2,7 +2,11 @@
 #![tactic(auto)]
 
 mod flushing;
+mod keeping;
 mod looking;
+mod rooted;
 
-pub use flushing::flushes_stand;
+pub use flushing::{few_items_are_stored, flushes_stand};
+pub use keeping::{fresh_images_stand, logs_grow, named_blocks_tell};
 pub use looking::{paths_tell, tables_answer};
+pub use rooted::{flushes_reach_the_root, roots_stand_alone};
