@@ -1,0 +1,5 @@
+pub mod Building
+pub mod Going
+pub mod Kept
+pub mod Open
+pub mod View

@@ -1,0 +1,66 @@
+-- What an open store has of its device.
+use Rattle.std.specs.Prelude.{◌≡◌, ℕ, ◌+◌, ◌++◌, Bool, List, Option, Some, IsTrue, length}
+use Rattle.std.specs.List.{AllByRecursion}
+use Rattle.lt_terms.specs.Bytes.{Image}
+use Rattle.lt_terms.specs.Items.{Item}
+use Rattle.lt_device.specs.State as told
+use Rattle.lt_device.specs.Image.{SameOutside}
+use Rattle.lt_device.specs.Moments.{MayLeave}
+use Rattle.lt_language.specs.Machine.{State}
+use Rattle.lt_format.specs.declared.node_id.NodeId.{NodeId}
+use Rattle.lt_format.specs.Layout.{blocks_needed}
+use Rattle.lt_format.specs.Log.{items_in}
+use Rattle.lt_format.specs.Naming.{Named}
+use Rattle.lt_format.specs.Trie.{Trie, Node, root, node_at}
+use Rattle.lt_manifest.specs.Moments.{Names}
+use Rattle.lt_redo.specs.LogState.{LogState}
+use Rattle.lt_redo.specs.Slots.{HasLog}
+use Rattle.lt_image.specs.Standing.{Stands, is_free_block, after_writes}
+use Rattle.lt_store.specs.Building.{KeepsFilter}
+
+-- A device that tells its blocks and what a crash may leave: each image that it may leave stands for this state, and they are what the device reads as but for blocks of extents that the manifest does not name.
+pub record AtRest (s : State) (device : told.State) : Type 0 where
+  pub image : Image
+  pub shown : device.shown ≡ Some image
+  pub tells : MayLeave device image
+  pub each : (left : Image) → MayLeave device left → Stands left s
+  pub named : Named
+  pub names : Names named image
+  pub agree : (left : Image) → MayLeave device left → SameOutside (λ n. IsTrue (is_free_block named n)) image left
+
+-- no node but the root has tables
+pub record IsRootOnly (trie : Trie) : Type 0 where
+  pub others : AllByRecursion (λ (e : NodeId × Node). e.0 ≡ root) trie
+
+-- a store as its calls see it; `kept` has the filter blocks of tables, by extent
+pub record StoreView : Type 0 where
+  pub is_up : Bool
+  pub named : Named
+  pub log : LogState
+  pub memory : List Item
+  pub taken : List Bool
+  pub kept : List (Option (List ℕ))
+  pub writes : ℕ
+
+-- the tables of the root
+abbrev pub root_pile : Trie → List ℕ
+root_pile trie = (node_at trie root).tables
+
+-- The store is open on a device at rest for the state `durable`, which its manifest and the groups of its log make; the memory table has their items and the pending ones, and the filters in memory are those of the root's tables.
+pub record IsOpen (v : StoreView) (durable : State) (device : told.State) : Type 0 where
+  pub rest : AtRest durable device
+  pub named : rest.named ≡ v.named
+  pub groups : List (List Item)
+  pub log : HasLog v.named.geometry v.log.area v.log.writes groups rest.image
+  pub slots : v.log.slots ≡ length groups
+  pub memory : v.memory ≡ items_in groups ++ v.log.pending
+  pub filters : AllByRecursion (KeepsFilter v.named.geometry v.kept rest.image) (root_pile v.named.manifest.trie)
+  pub root_only : IsRootOnly v.named.manifest.trie
+
+-- the state that the store answers for: the durable one, and the pending writes
+abbrev pub state_of : StoreView → State → State
+state_of v durable = after_writes durable v.log.pending
+
+-- how many blocks the store uses
+abbrev pub blocks_of : StoreView → ℕ
+blocks_of v = blocks_needed v.named.geometry v.named.manifest.header.extents

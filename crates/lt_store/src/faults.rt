@@ -1,0 +1,49 @@
+//! Why a call of a store was refused.
+
+use lt_htable::BuildFault;
+use lt_node::CommitFault;
+use lt_page::{Failed, NoMemory};
+
+/// Why a store was not made.
+#[derive(Clone, Copy, Debug, PartialEq, Eq)]
+pub enum InitFault {
+    /// The device failed. Its count of faults rose.
+    Device,
+    /// Block 0 is not all zero.
+    Occupied,
+    /// The device has fewer blocks than are needed.
+    TooSmall { needed: u64, has: u64 },
+    NoMemory,
+}
+
+/// Why a store did not do what it was asked.
+#[derive(Clone, Copy, Debug, PartialEq, Eq)]
+pub enum WriteFault {
+    /// The device failed. Its count of faults rose.
+    Device,
+    /// This block is a bucket's, was read and spells no bucket.
+    Damaged(u64),
+    NoMemory,
+}
+
+impl From<Failed> for WriteFault {
+    ghost use Rattle.std.specs.Prelude.{◌≡◌};
+    ghost use Rattle.lt_store.specs.declared.faults.WriteFault.TheVariants.{Device};
+
+    ghost from_gives = { λ _ fault. fault ≡ Device };
+
+    fn from(_: Failed) -> WriteFault {
+        WriteFault::Device
+    }
+}
+
+impl From<NoMemory> for WriteFault {
+    ghost use Rattle.std.specs.Prelude.{◌≡◌};
+    ghost use Rattle.lt_store.specs.declared.faults.WriteFault.TheVariants as faults;
+
+    ghost from_gives = { λ _ fault. fault ≡ faults.NoMemory };
+
+    fn from(_: NoMemory) -> WriteFault {
+        WriteFault::NoMemory
+    }
+}

@@ -1,0 +1,8 @@
+//! The store: puts and deletes into a log and a memory table, tables of the root, and gets.
+#![tactic(auto)]
+
+mod faults;
+mod store;
+
+pub use faults::{InitFault, WriteFault};
+pub use store::Store;

@@ -1,0 +1,41 @@
+//! What a store keeps in memory.
+
+ghost use Rattle.std.specs.Prelude.{◌≡◌, true, length, vec_len};
+ghost use Rattle.lt_store.specs.Kept.{IsKept};
+
+use lt_alloc::Extents;
+use lt_bloom::FilterPage;
+use lt_format::Geometry;
+use lt_manifest::Manifest;
+use lt_mem::MemTable;
+use lt_page::Page;
+use lt_redo::Log;
+
+/// A store that is open on a device. Its writes since the last flush lie in the log and in the memory
+/// table; those of the open group are not durable yet.
+#[derive(Drop)]
+pub struct Store {
+    pub(super) geometry: Geometry,
+    pub(super) log: Log,
+    pub(super) manifest: Manifest,
+    pub(super) memory: MemTable,
+    pub(super) extents: Extents,
+    /// The filters of the root's tables, by extent.
+    pub(super) filters: Vec<Option<FilterPage>>,
+    pub(super) page: Page,
+    /// How many writes were accepted.
+    pub(super) writes: u64,
+    pub(super) is_up: bool,
+    ghost geometry_is: { geometry ≡ manifest.geometry },
+    ghost kept: { is_up ≡ true → IsKept manifest log memory extents (vec_len filters) writes },
+}
+
+impl Store {
+    /// Whether the store may be used. It is false exactly after a write or a commit answered a fault of
+    /// the device; the store is then opened again.
+    pub fn is_up(&self) -> bool
+        ensures { result ≡ self.now.is_up }
+    {
+        self.is_up
+    }
+}
