@@ -1,5 +1,5 @@
 -- What an image stands for rests on the blocks that its manifest names.
-use Rattle.std.proofs.Common.{◌≡◌, ℕ, zero, suc, ◌+◌, ◌*◌, ◌/◌, ◌-◌, ◌<◌, ◌≤◌, refl, sym, ap, subst, ◌∙◌, List, [], true, false, not, cond, ◌&&◌, Option, Result, Ok, arith}
+use Rattle.std.proofs.Common.{◌≡◌, length, ℕ, zero, suc, ◌+◌, ◌*◌, ◌/◌, ◌-◌, ◌<◌, ◌≤◌, refl, sym, ap, subst, ◌∙◌, List, [], true, false, not, cond, ◌&&◌, Option, Result, Ok, arith}
 use Rattle.std.specs.Prelude.{IsFalse, nat_le, nat_lt}
 use Rattle.lt_terms.specs.Bytes.{Image, block_at}
 use Rattle.lt_terms.specs.Items.{Item}
@@ -10,11 +10,12 @@ use Rattle.lt_tables.specs.Filter.{is_in}
 use Rattle.lt_tables.proofs.CoverLaws.{within_itself}
 use Rattle.lt_image.proofs.SoundLaws.{all_map}
 use Rattle.lt_format.specs.declared.geometry.Geometry.{Geometry}
-use Rattle.lt_format.specs.Layout.{is_open, log_gate, log_content, first_open, closed_from, extent_block, extent_blocks}
+use Rattle.lt_format.specs.Layout.{selected, selector_block, is_open, log_gate, log_content, first_open, closed_from, extent_block, extent_blocks}
 use Rattle.lt_format.specs.Log.{group_on, with_group, read_with, log_from, log_groups}
 use Rattle.lt_format.specs.Snapshot.{◌>>=◌}
-use Rattle.lt_format.specs.Naming.{Named, manifest_of}
+use Rattle.lt_format.specs.Naming.{Named, HasManifest, manifest_of}
 use Rattle.lt_format.specs.Trie.{named}
+use Rattle.lt_format.proofs.LocalLaws.{manifest-local}
 use Rattle.lt_format.proofs.ReadLaws.{ok_same, manifest_of-named}
 use Rattle.lt_image.specs.Opening.{Opened, open_image}
 use Rattle.lt_image.specs.Standing.{Stands, is_free_block}
@@ -83,9 +84,22 @@ extent_not_free m x c there small =
     ∙ ap (λ t. nat_le (extent_block m.geometry 0) n && nat_lt x m.manifest.header.extents && not t) there
     ∙ and-false (nat_le (extent_block m.geometry 0) n && nat_lt x m.manifest.header.extents)
 
+fixed_not_free : (m : Named) (n : ℕ) → n < 868 → is_free_block m n ≡ false
+fixed_not_free m n low =
+    ap (λ t. t && nat_lt ((n - extent_block m.geometry 0) / extent_blocks) m.manifest.header.extents && not (is_in ((n - extent_block m.geometry 0) / extent_blocks) (named m.manifest.trie)))
+    (lt-leb (extent_block m.geometry 0) n (omega arith))
+
 pub not_free-named : (old new : Image) (m : Named) → manifest_of old ≡ Ok m → ((n : ℕ) → IsFalse (is_free_block m n) → block_at old n ≡ block_at new n) → SameNamed m old new
 not_free-named old new m names same = record {
   log = λ n low high. sym (same n (log_not_free m n (manifest_of-named old m names).read.area high));
   kept = all_map (λ x. is_in x (named m.manifest.trie) ≡ true) (SameExtent m.geometry old new)
       (λ x there c small. sym (same (extent_block m.geometry x + c) (extent_not_free m x c there small))) (named m.manifest.trie) (within_itself (named m.manifest.trie));
 }
+
+-- so an image that differs from another only in free blocks names the same
+pub not_free-manifest : (old new : Image) (m : Named) → length new ≡ length old → manifest_of old ≡ Ok m → ((n : ℕ) → IsFalse (is_free_block m n) → block_at old n ≡ block_at new n) → manifest_of new ≡ Ok m
+not_free-manifest old new m long names same =
+    let low : (n : ℕ) → n < 868 → block_at new n ≡ block_at old n = λ n small. sym (same n (fixed_not_free m n small)) in
+    let has : HasManifest m.geometry m.manifest new = manifest-local m.geometry m.manifest old new long low (record { area = m.area; read = names }) in
+    let area : has.area ≡ m.area = (manifest_of-named new (record { geometry = m.geometry; area = has.area; manifest = m.manifest }) has.read).area ∙ ap selected (low selector_block (omega arith)) ∙ sym (manifest_of-named old m names).area in
+    has.read ∙ (λ i. Ok (record { geometry = m.geometry; area = area i; manifest = m.manifest }))

@@ -1,6 +1,6 @@
 //! What an image stands for while its manifest and the extents that this names stay as they are.
 
-ghost use Rattle.std.specs.Prelude.{◌≡◌, ℕ, List, [], ◌∷◌, ◌++◌, Ok, IsFalse};
+ghost use Rattle.std.specs.Prelude.{◌≡◌, ℕ, List, [], ◌∷◌, ◌++◌, Ok, IsFalse, length};
 ghost use Rattle.lt_terms.specs.Bytes.{Image, block_at};
 ghost use Rattle.lt_terms.specs.Items.{Item};
 ghost use Rattle.lt_language.specs.Machine.{State, nothing_yet};
@@ -22,9 +22,10 @@ pub fn logs_grow()
 {}
 
 /// What an image stands for rests on its manifest, and on the blocks of the log area and of the
-/// extents that this names. All blocks of these are among those that are not free.
+/// extents that this names. The blocks that are not free have all of these.
 pub fn named_blocks_tell()
     ensures opens { (old new : Image) (m : Named) → manifest_of old ≡ Ok m → manifest_of new ≡ Ok m → SameNamed m old new → open_image new ≡ open_image old }
     ensures stands { (old new : Image) (m : Named) (s : State) → manifest_of old ≡ Ok m → manifest_of new ≡ Ok m → SameNamed m old new → Stands old s → Stands new s }
+    ensures manifest { (old new : Image) (m : Named) → length new ≡ length old → manifest_of old ≡ Ok m → ((n : ℕ) → IsFalse (is_free_block m n) → block_at old n ≡ block_at new n) → manifest_of new ≡ Ok m }
     ensures not_free { (old new : Image) (m : Named) → manifest_of old ≡ Ok m → ((n : ℕ) → IsFalse (is_free_block m n) → block_at old n ≡ block_at new n) → SameNamed m old new }
 {}

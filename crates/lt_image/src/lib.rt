@@ -4,9 +4,11 @@
 mod flushing;
 mod keeping;
 mod looking;
+mod opening;
 mod rooted;
 
 pub use flushing::{few_items_are_stored, flushes_stand};
 pub use keeping::{fresh_images_stand, logs_grow, named_blocks_tell};
 pub use looking::{paths_tell, tables_answer};
+pub use opening::images_open;
 pub use rooted::{flushes_reach_the_root, roots_stand_alone};
