@@ -13,7 +13,7 @@ use Rattle.lt_format.specs.declared.geometry.Geometry.{Geometry}
 use Rattle.lt_format.specs.Layout.{selected, selector_block, is_open, log_gate, log_content, first_open, closed_from, extent_block, extent_blocks}
 use Rattle.lt_format.specs.Log.{group_on, with_group, read_with, log_from, log_groups}
 use Rattle.lt_format.specs.Snapshot.{◌>>=◌}
-use Rattle.lt_format.specs.Naming.{Named, HasManifest, manifest_of}
+use Rattle.lt_format.specs.Naming.{Named, manifest_of}
 use Rattle.lt_format.specs.Trie.{named}
 use Rattle.lt_format.proofs.LocalLaws.{manifest-local}
 use Rattle.lt_format.proofs.ReadLaws.{ok_same, manifest_of-named}
@@ -84,7 +84,7 @@ extent_not_free m x c there small =
     ∙ ap (λ t. nat_le (extent_block m.geometry 0) n && nat_lt x m.manifest.header.extents && not t) there
     ∙ and-false (nat_le (extent_block m.geometry 0) n && nat_lt x m.manifest.header.extents)
 
-fixed_not_free : (m : Named) (n : ℕ) → n < 868 → is_free_block m n ≡ false
+pub fixed_not_free : (m : Named) (n : ℕ) → n < 868 → is_free_block m n ≡ false
 fixed_not_free m n low =
     ap (λ t. t && nat_lt ((n - extent_block m.geometry 0) / extent_blocks) m.manifest.header.extents && not (is_in ((n - extent_block m.geometry 0) / extent_blocks) (named m.manifest.trie)))
     (lt-leb (extent_block m.geometry 0) n (omega arith))
@@ -100,6 +100,4 @@ not_free-named old new m names same = record {
 pub not_free-manifest : (old new : Image) (m : Named) → length new ≡ length old → manifest_of old ≡ Ok m → ((n : ℕ) → IsFalse (is_free_block m n) → block_at old n ≡ block_at new n) → manifest_of new ≡ Ok m
 not_free-manifest old new m long names same =
     let low : (n : ℕ) → n < 868 → block_at new n ≡ block_at old n = λ n small. sym (same n (fixed_not_free m n small)) in
-    let has : HasManifest m.geometry m.manifest new = manifest-local m.geometry m.manifest old new long low (record { area = m.area; read = names }) in
-    let area : has.area ≡ m.area = (manifest_of-named new (record { geometry = m.geometry; area = has.area; manifest = m.manifest }) has.read).area ∙ ap selected (low selector_block (omega arith)) ∙ sym (manifest_of-named old m names).area in
-    has.read ∙ (λ i. Ok (record { geometry = m.geometry; area = area i; manifest = m.manifest }))
+    manifest-local old new long low ∙ names

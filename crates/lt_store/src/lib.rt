@@ -1,6 +1,7 @@
 //! The store: puts and deletes into a log and a memory table, tables of the root, and gets.
 #![tactic(auto)]
 
+mod committing;
 mod faults;
 mod store;
 

@@ -1,0 +1,5 @@
+pub mod FlushLaws
+pub mod GoLaws
+pub mod GroupLaws
+pub mod MomentLaws
+pub mod SameLaws
