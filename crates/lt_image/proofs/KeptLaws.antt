@@ -9,7 +9,7 @@ use Rattle.std.proofs.lemmas.Bool.{ltb-false}
 use Rattle.lt_terms.specs.Bytes.{Image}
 use Rattle.lt_terms.specs.Items.{Item}
 use Rattle.lt_terms.specs.Maps.{empty_map, applied, after_items}
-use Rattle.lt_language.specs.Machine.{State, nothing_yet}
+use Rattle.lt_language.specs.Machine.{State, nothing_yet, after_write}
 use Rattle.lt_format.specs.declared.node_id.NodeId.{NodeId}
 use Rattle.lt_format.specs.declared.geometry.Geometry.{Geometry}
 use Rattle.lt_format.specs.Layout.{area_block}
@@ -121,3 +121,18 @@ fresh-stands image o opens bare none empty =
       map = (λ i. after_items empty_map (stored i ++ items_in (empty i)));
       writes = (λ i. none i + length (items_in (empty i)));
     })
+
+-- ---- writes one after another
+
+pub no_writes : (s : State) → after_writes s [] ≡ s
+no_writes s = let same : s.writes + 0 ≡ s.writes = omega arith in λ i. record { map = s.map; writes = same i }
+
+pub writes-joined : (s : State) (first rest : List Item) → after_writes (after_writes s first) rest ≡ after_writes s (first ++ rest)
+writes-joined s first rest =
+    let maps : after_items (after_items s.map first) rest ≡ after_items s.map (first ++ rest) = sym (fold-append applied s.map first rest) in
+    let long : length (first ++ rest) ≡ length first + length rest = length-append first rest in
+    let counts : s.writes + length first + length rest ≡ s.writes + length (first ++ rest) = omega arith in
+    λ i. record { map = maps i; writes = counts i }
+
+pub one_write : (s : State) (item : Item) → after_writes s (item ∷ []) ≡ after_write s item
+one_write s item = refl

@@ -4,7 +4,7 @@ use Rattle.std.specs.Prelude.{IsFalse, nat_le, nat_lt}
 use Rattle.lt_terms.specs.Bytes.{Image, block_at}
 use Rattle.lt_terms.specs.Items.{Item}
 use Rattle.lt_language.specs.Machine.{State}
-use Rattle.std.proofs.lemmas.Bool.{lt-leb}
+use Rattle.std.proofs.lemmas.Bool.{lt-leb, le-leb, lt-ltb, leb-true, ltb-true, and_parts, and_from, not-true, not_from_false}
 use Rattle.std.proofs.Math.Bool.{and-false}
 use Rattle.lt_tables.specs.Filter.{is_in}
 use Rattle.lt_tables.proofs.CoverLaws.{within_itself}
@@ -103,3 +103,21 @@ not_free-manifest old new m long names same =
     let has : HasManifest m.geometry m.manifest new = manifest-local m.geometry m.manifest old new long low (record { area = m.area; read = names }) in
     let area : has.area ≡ m.area = (manifest_of-named new (record { geometry = m.geometry; area = has.area; manifest = m.manifest }) has.read).area ∙ ap selected (low selector_block (omega arith)) ∙ sym (manifest_of-named old m names).area in
     has.read ∙ (λ i. Ok (record { geometry = m.geometry; area = area i; manifest = m.manifest }))
+
+-- ---- free blocks
+
+pub unnamed-free : (m : Named) (x n : ℕ) → x < m.manifest.header.extents → is_in x (named m.manifest.trie) ≡ false → extent_block m.geometry x ≤ n → n < extent_block m.geometry x + extent_blocks → is_free_block m n ≡ true
+unnamed-free m x n small none low high =
+    let number : (n - extent_block m.geometry 0) / extent_blocks ≡ x = omega arith in
+    ap (λ y. nat_le (extent_block m.geometry 0) n && nat_lt y m.manifest.header.extents && not (is_in y (named m.manifest.trie))) number
+    ∙ and_from (nat_le (extent_block m.geometry 0) n && nat_lt x m.manifest.header.extents) (not (is_in x (named m.manifest.trie)))
+      (and_from (nat_le (extent_block m.geometry 0) n) (nat_lt x m.manifest.header.extents) (le-leb (extent_block m.geometry 0) n (omega arith)) (lt-ltb x m.manifest.header.extents small))
+      (not_from_false (is_in x (named m.manifest.trie)) none)
+
+pub free-unnamed : (m : Named) (n : ℕ) → is_free_block m n ≡ true → (x : ℕ) × (x < m.manifest.header.extents) × (is_in x (named m.manifest.trie) ≡ false) × (extent_block m.geometry x ≤ n) × (n < extent_block m.geometry x + extent_blocks)
+free-unnamed m n h =
+    let x : ℕ = (n - extent_block m.geometry 0) / extent_blocks in
+    let b = and_parts (nat_le (extent_block m.geometry 0) n && nat_lt x m.manifest.header.extents) (not (is_in x (named m.manifest.trie))) h in
+    let a = and_parts (nat_le (extent_block m.geometry 0) n) (nat_lt x m.manifest.header.extents) b.0 in
+    let low : extent_block m.geometry 0 ≤ n = leb-true (extent_block m.geometry 0) n a.0 in
+    (x, ltb-true x m.manifest.header.extents a.1, not-true (is_in x (named m.manifest.trie)) b.1, omega arith, omega arith)
