@@ -15,3 +15,4 @@ pub mod KeptLaws
 pub mod LocalLaws
 pub mod CountLaws
 pub mod RootLaws
+pub mod PrefixLaws
