@@ -1,4 +1,5 @@
 pub mod Words
+pub mod ListLaws
 pub mod ChangeLaws
 pub mod PathLaws
 pub mod SoundLaws

@@ -11,6 +11,7 @@ use Rattle.lt_tables.specs.Bucket.{items_on}
 use Rattle.lt_tables.specs.Placement.{columns}
 use Rattle.lt_tables.specs.Table.{table_items}
 use Rattle.lt_tables.specs.Merge.{newest, newest_of, value_of}
+use Rattle.lt_tables.proofs.FitLaws.{all_weaker}
 use Rattle.lt_format.specs.declared.node_id.NodeId.{NodeId}
 use Rattle.lt_format.specs.declared.geometry.Geometry.{Geometry}
 use Rattle.lt_format.specs.Layout.{extent_block}
@@ -43,10 +44,6 @@ flat_map_nil f (x ∷ xs) all = ap (λ ys. ys ++ flat_map f xs) all.0 ∙ flat_m
 pub nil_block_if : (test : Bool) (block : ℕ) → block_if test block ≡ [] → test ≡ false
 nil_block_if true block e = cc
 nil_block_if false block e = refl
-
-pub all_map : {A : Type 0} (P Q : A → Type 0) → ((x : A) → P x → Q x) → (xs : List A) → AllByRecursion P xs → AllByRecursion Q xs
-all_map P Q f [] all = tt
-all_map P Q f (x ∷ xs) all = (f x all.0, all_map P Q f xs all.1)
 
 -- ---- a table without bad blocks
 
@@ -89,7 +86,7 @@ sound_table-belongs id block items e =
 pub sound_node-belongs : (g : Geometry) (image : Image) (e : NodeId × Node) → bad_node_blocks g image e ≡ [] → PileBelongs (items_at g image) e
 sound_node-belongs g image e h =
     let parts = nil_append (flat_map (bad_table_blocks g image e.0) e.1.tables) (flat_map (bad_group_blocks g image e.1.tables) (enumerate_from 0 e.1.groups)) h in
-    all_map (λ x. bad_table_blocks g image e.0 x ≡ []) (λ x. Belongs e.0 (items_at g image x))
+    all_weaker (λ x. bad_table_blocks g image e.0 x ≡ []) (λ x. Belongs e.0 (items_at g image x))
     (λ x none. sound_table-belongs e.0 (extent_in g image x) (newest (items_at g image x)) (nil_map (λ c. extent_block g x + c) (bad_in_table e.0 (extent_in g image x) (newest (items_at g image x))) none))
     e.1.tables (nil_flat_map (bad_table_blocks g image e.0) e.1.tables parts.0)
 
@@ -99,7 +96,7 @@ sound-sorted o image rising e =
     let parts = nil_append (flat_map (bad_node_blocks o.named.geometry image) o.named.manifest.trie) _ e in
     record {
       rising = rising;
-      belong = all_map (λ n. bad_node_blocks o.named.geometry image n ≡ []) (PileBelongs (items_at o.named.geometry image)) (λ n. sound_node-belongs o.named.geometry image n) o.named.manifest.trie (nil_flat_map (bad_node_blocks o.named.geometry image) o.named.manifest.trie parts.0);
+      belong = all_weaker (λ n. bad_node_blocks o.named.geometry image n ≡ []) (PileBelongs (items_at o.named.geometry image)) (λ n. sound_node-belongs o.named.geometry image n) o.named.manifest.trie (nil_flat_map (bad_node_blocks o.named.geometry image) o.named.manifest.trie parts.0);
     }
 
 -- THE READING of a sound image

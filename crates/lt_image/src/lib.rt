@@ -9,7 +9,9 @@ mod prefixes;
 mod rooted;
 
 pub use flushing::{few_items_are_stored, flushes_commit, flushes_stand};
-pub use keeping::{free_blocks_are_unnamed, fresh_images_stand, logs_grow, named_blocks_tell, writes_add_up};
+pub use keeping::{
+    free_blocks_are_unnamed, fresh_images_stand, logs_grow, named_blocks_tell, writes_add_up,
+};
 pub use looking::{paths_tell, tables_answer};
 pub use opening::images_open;
 pub use prefixes::{images_stand_for_one, prefixes_grow};
