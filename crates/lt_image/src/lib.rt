@@ -2,6 +2,7 @@
 #![tactic(auto)]
 
 mod flushing;
+mod judging;
 mod keeping;
 mod looking;
 mod opening;
@@ -9,6 +10,7 @@ mod prefixes;
 mod rooted;
 
 pub use flushing::{few_items_are_stored, flushes_commit, flushes_stand};
+pub use judging::pages_spell_what_is_read;
 pub use keeping::{
     free_blocks_are_unnamed, fresh_images_stand, logs_grow, named_blocks_tell, writes_add_up,
 };
