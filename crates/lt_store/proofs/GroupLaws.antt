@@ -32,7 +32,7 @@ use Rattle.lt_store.proofs.SameLaws.{Same, same-names, same-stands, same-log, sa
 use Rattle.lt_store.proofs.MomentLaws.{IsReady, open-steady, open-names, open-ready, open-same, open-from, sure-agrees}
 use Rattle.lt_store.proofs.FlushLaws.{Fits, each_all}
 
-items_in-more : (groups : List (List Item)) (group : List Item) → items_in (groups ++ group ∷ []) ≡ items_in groups ++ group
+pub items_in-more : (groups : List (List Item)) (group : List Item) → items_in (groups ++ group ∷ []) ≡ items_in groups ++ group
 items_in-more groups group = flat_map-append (λ (items : List Item). items) groups (group ∷ []) ∙ ap (λ xs. items_in groups ++ xs) (append-nil group)
 
 groups_with-items : (groups : List (List Item)) (pending : List Item) → items_in (groups_with groups pending) ≡ items_in groups ++ pending
@@ -83,7 +83,7 @@ module _ (v : StoreView) (d : State) (old : told.State) (o : IsOpen v d old) (fi
 pub after_none : (d : State) → after_writes d [] ≡ d
 after_none d = let same : d.writes + 0 ≡ d.writes = omega arith in λ i. record { map = d.map; writes = same i }
 
-take-whole : (xs : List Item) → take (length xs) (xs ++ []) ≡ xs
+pub take-whole : (xs : List Item) → take (length xs) (xs ++ []) ≡ xs
 take-whole [] = refl
 take-whole (x ∷ xs) = ap (λ ys. x ∷ ys) (take-whole xs)
 

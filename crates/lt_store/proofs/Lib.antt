@@ -1,3 +1,4 @@
+pub mod CommitLaws
 pub mod FlushLaws
 pub mod GoLaws
 pub mod GroupLaws

@@ -19,6 +19,7 @@ impl Store {
         requires up { self.old.is_up ≡ true }
         requires within { blocks_of (view_of self.old) ≤ D.blocks device.old }
         ensures ok { OnOk result (view_of self.new ≡ committed (view_of self.old)) }
+        ensures up { OnOk result (self.new.is_up ≡ true) }
         ensures err { OnErr result (self.new.is_up ≡ false) }
         ensures idle { self.old.log.pending ≡ [] → (IsOk result × (device.new ≡ device.old)) }
 
@@ -30,8 +31,12 @@ impl Store {
         ensures count { D.reads device.new ≡ D.reads device.old }
         ensures cause { HasCause (D.faults device.old) (D.faults device.new) result }
     {
-        let committed = self.log.commit(device);
-        self.is_up = committed.is_ok();
-        committed
+        match self.log.commit(device) {
+            Ok(()) => Ok(()),
+            Err(fault) => {
+                self.is_up = false;
+                Err(fault)
+            }
+        }
     }
 }
