@@ -1,6 +1,8 @@
 //! The store: puts and deletes into a log and a memory table, tables of the root, and gets.
 #![tactic(auto)]
 
+mod building;
+mod cutting;
 mod faults;
 mod store;
 
