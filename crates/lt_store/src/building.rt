@@ -32,7 +32,7 @@ pub(super) fn build_tables<D: Device>(
     requires distinct { IsTrue (all_distinct numbers.now) }
     requires below { IsTrue (all_below (length filters.old) numbers.now) }
     requires within { blocks_needed geometry.now (length filters.old) ≤ D.blocks device.old }
-    ensures built { OnOk result ((image : Image) → (D.state device.new).shown ≡ Some image → AllZip (HasTable geometry.now filters.new image) numbers.now (map (λ table. table.now) tables.now)) }
+    ensures built { OnOk result ((before image : Image) → (D.state device.old).shown ≡ Some before → (D.state device.new).shown ≡ Some image → AllZip (HasTable geometry.now filters.new image) numbers.now (map (λ table. table.now) tables.now)) }
     ensures filters { (x : ℕ) → is_in x numbers.now ≡ false → slice_index_or filters.new x None ≡ slice_index_or filters.old x None }
 
     // Whatever it answers, it touches no other block.
@@ -43,8 +43,8 @@ pub(super) fn build_tables<D: Device>(
     ensures later { D.faults device.old ≤ D.faults device.new }
     ensures cause { IsErrOf result BuildFault.Device → Rose (D.faults device.old) (D.faults device.new) }
 {
-    for (table, number) in tables.iter().zip(numbers) {
-        let built = build(alloc, device, geometry.extent(*number), table)?;
+    for (turn, number) in numbers.iter().enumerate() {
+        let built = build(alloc, device, geometry.extent(*number), tables[turn])?;
         filters[*number as usize] = Some(built);
     }
     Ok(())
