@@ -1,6 +1,9 @@
+pub mod BuildLaws
 pub mod CommitLaws
+pub mod CutLaws
 pub mod FlushLaws
 pub mod GoLaws
 pub mod GroupLaws
 pub mod MomentLaws
+pub mod NumberLaws
 pub mod SameLaws
