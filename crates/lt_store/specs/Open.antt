@@ -7,14 +7,14 @@ use Rattle.lt_device.specs.State as told
 use Rattle.lt_device.specs.Image.{SameOutside}
 use Rattle.lt_device.specs.Moments.{MayLeave}
 use Rattle.lt_language.specs.Machine.{State}
-use Rattle.lt_format.specs.declared.node_id.NodeId.{NodeId}
 use Rattle.lt_format.specs.Layout.{blocks_needed}
 use Rattle.lt_format.specs.Log.{items_in}
 use Rattle.lt_format.specs.Naming.{Named}
-use Rattle.lt_format.specs.Trie.{Trie, Node, root, node_at}
+use Rattle.lt_format.specs.Trie.{Trie, root, node_at}
 use Rattle.lt_manifest.specs.Moments.{Names}
 use Rattle.lt_redo.specs.LogState.{LogState}
 use Rattle.lt_redo.specs.Slots.{HasLog}
+use Rattle.lt_image.specs.OnPath.{has_only_root}
 use Rattle.lt_image.specs.Standing.{Stands, is_free_block, after_writes}
 use Rattle.lt_store.specs.Building.{KeepsFilter}
 
@@ -30,7 +30,7 @@ pub record AtRest (s : State) (device : told.State) : Type 0 where
 
 -- no node but the root has tables
 pub record IsRootOnly (trie : Trie) : Type 0 where
-  pub others : AllByRecursion (λ (e : NodeId × Node). e.0 ≡ root) trie
+  pub only : IsTrue (has_only_root trie)
 
 -- a store as its calls see it; `kept` has the filter blocks of tables, by extent
 pub record StoreView : Type 0 where

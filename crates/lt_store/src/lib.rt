@@ -2,6 +2,7 @@
 #![tactic(auto)]
 
 mod faults;
+mod getting;
 mod store;
 
 pub use faults::{InitFault, WriteFault};
