@@ -1,2 +1,3 @@
 pub mod GetLaws
 pub mod LookLaws
+pub mod PileLaws
