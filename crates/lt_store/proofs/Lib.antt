@@ -1,3 +1,4 @@
+pub mod AnswerLaws
 pub mod GetLaws
 pub mod LookLaws
 pub mod PileLaws
