@@ -5,6 +5,7 @@ mod building;
 mod committing;
 mod cutting;
 mod faults;
+mod getting;
 mod store;
 
 pub use faults::{InitFault, WriteFault};

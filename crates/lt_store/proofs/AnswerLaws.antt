@@ -1,0 +1,240 @@
+-- What an open store's image holds, and what a get answers from it.
+use Rattle.std.proofs.Common.{◌≡◌, ℕ, ◌+◌, ◌<◌, ◌≤◌, min, refl, sym, ap, subst, ◌∙◌, List, [], ◌∷◌, ◌++◌, length, take, drop, Bool, true, false, cond, ◌&&◌, Option, Some, None, Result, Ok, Err, append_assoc, arith, leb-true, ltb-true}
+use Rattle.std.specs.Prelude.{IsTrue, IsFalse, slice_index_or, nat_le, nat_lt}
+use Rattle.std.specs.List.{AllByRecursion, flat_map, sum_by, last_or}
+use Rattle.std.specs.Option.{option_or, option_map_or}
+use Rattle.std.proofs.lemmas.Bool.{and_parts}
+use Rattle.std.proofs.lemmas.List.{take_all, take_at, length-take-le}
+use Rattle.std.proofs.lemmas.List.Sums.{fold-append, sum_by-cons}
+use Rattle.lt_terms.specs.declared.Kind.{Kind}
+use Rattle.lt_terms.specs.declared.Kind.TheVariants.{Put, Delete}
+use Rattle.lt_terms.specs.Bytes.{Image, same_bytes}
+use Rattle.lt_terms.specs.Hashes.{home_column}
+use Rattle.lt_terms.specs.Items.{Item, is_key, is_valid, value_limit, item_cost, total_cost}
+use Rattle.lt_terms.specs.Maps.{value_at, applied, after_items, empty_map}
+use Rattle.lt_language.specs.Machine.{State}
+use Rattle.lt_device.specs.State as told
+use Rattle.lt_tables.specs.Filter.{covers}
+use Rattle.lt_tables.specs.Merge.{newest, newest_of, value_of, is_put}
+use Rattle.lt_tables.specs.Table.{IsPlaced}
+use Rattle.lt_tables.proofs.RankLaws.{newest_or}
+use Rattle.lt_tables.proofs.NewestLaws.{newest_of-append}
+use Rattle.lt_tables.proofs.ValidLaws.{AllValid, AllValid-append, table_items-valid}
+use Rattle.lt_tables.proofs.VersionLaws.{get_versions}
+use Rattle.lt_format.specs.declared.geometry.Geometry.{Geometry}
+use Rattle.lt_format.specs.Log.{log_groups, items_in, group_room}
+use Rattle.lt_format.specs.Naming.{Named, manifest_of}
+use Rattle.lt_format.specs.Layout.{extent_block}
+use Rattle.lt_format.specs.Trie.{Trie, root, node_at, named, all_below, IsTrie}
+use Rattle.lt_format.proofs.ReadLaws.{ok_same}
+use Rattle.lt_htable.specs.declared.faults.LookFault.{LookFault}
+use Rattle.lt_htable.specs.declared.faults.LookFault.TheVariants.{Device, Damaged}
+use Rattle.lt_image.specs.OnPath.{Stop, first_some}
+use Rattle.lt_image.specs.Opening.{Opened, open_image, log_items}
+use Rattle.lt_image.specs.Versions.{extent_in, items_at, pile_items, versions}
+use Rattle.lt_image.proofs.MapLaws.{named-tables}
+use Rattle.lt_image.proofs.OpenLaws.{opens-is, opens-well, log_items-valid}
+use Rattle.lt_image.proofs.PathLaws.{newest_or-is, first_some-pile}
+use Rattle.lt_image.proofs.PlacedLaws.{named-placed, named-skips}
+use Rattle.lt_image.proofs.RootLaws.{root-stops}
+use Rattle.lt_image.proofs.SoundLaws.{sound-found}
+use Rattle.lt_image.proofs.StandLaws.{StandsAs, stands-as}
+use Rattle.lt_store.specs.declared.getting.Version.{Version}
+use Rattle.lt_store.specs.declared.getting.Version.TheVariants.{Value, Deleted}
+use Rattle.lt_store.specs.Building.{KeepsFilter}
+use Rattle.lt_store.specs.Getting.{Finds, Answers, IsVersion, IsAnswer, IsReadable, may_hold, shown_len, with_value, version_of, page_with, value_len}
+use Rattle.lt_store.specs.Kept.{IsKept}
+use Rattle.lt_store.specs.Open.{StoreView, IsOpen, root_pile, state_of}
+
+-- ---- a value at the front of a page
+
+front : (value page : List ℕ) → length value ≤ 4096 → (length value ≡ shown_len value) × (take (shown_len value) (with_value page value) ≡ value)
+front value page small =
+    let len : min (length value) 4096 ≡ length value = omega arith in
+    let whole : take (shown_len value) value ≡ value = take_all (shown_len value) value (omega arith) in
+    (sym len, take_at (take (shown_len value) value) _ (shown_len value) (ap length whole ∙ sym len) ∙ whole)
+
+-- an item as small as it may be
+abbrev IsSmall : Item → Type 0
+IsSmall v = length v.value ≤ 4096
+
+finds_put : (value old : List ℕ) (b : Bool) → length value ≤ 4096 → Finds (cond b (with_value old value) old) (cond b (Some value) None) (value_len (Some (cond b (Value (shown_len value)) Deleted)))
+finds_put value old true small = front value old small
+finds_put value old false small = tt
+
+finds : (item : Option Item) (version : Option Version) (old new : List ℕ) → ((v : Item) → item ≡ Some v → IsSmall v) → IsVersion item version old new → Finds new (value_of item) (value_len version)
+finds None None old new small is = tt
+finds None (Some w) old new small is = absurd is
+finds (Some v) None old new small is = absurd is
+finds (Some v) (Some w) old new small is =
+    subst (λ (page : List ℕ). Finds page (value_of (Some v)) (value_len (Some w))) (sym is.1)
+    (subst (λ (x : Version). Finds (page_with v old) (value_of (Some v)) (value_len (Some x))) (sym is.0) (finds_put v.value old (is_put v) (small v refl)))
+
+answers : (item : Option Item) (found : Option Item) (version : Option Version) (old new : List ℕ) → found ≡ item → ((v : Item) → found ≡ Some v → IsSmall v) → IsVersion item version old new → Answers new (value_of found) (Ok (value_len version))
+answers item found version old new is small h = finds found version old new small (subst (λ (o : Option Item). IsVersion o version old new) (sym is) h)
+
+-- ---- items are small
+
+pub valid-small : (v : Item) → IsTrue (is_valid v) → IsSmall v
+valid-small v h = let len : length v.value ≤ value_limit v.kind = leb-true _ _ (and_parts (is_key v.key) (nat_le (length v.value) (value_limit v.kind)) h).1 in let most = limit v.kind in omega arith
+  where
+    limit : (k : Kind) → value_limit k ≤ 3000
+    limit Put = omega arith
+    limit Delete = omega arith
+
+all_small : (items : List Item) → AllValid items → AllByRecursion IsSmall items
+all_small [] all = tt
+all_small (v ∷ items) all = (valid-small v all.0, all_small items all.1)
+
+few_small : (items : List Item) (n : ℕ) → total_cost items ≤ n → n ≤ 4096 → AllByRecursion IsSmall items
+few_small [] n h most = tt
+few_small (v ∷ items) n h most = let sum = sum_by-cons item_cost v items in (omega (arith, sum), few_small items n (omega (arith, sum)) most)
+
+small_append : (xs ys : List Item) → AllByRecursion IsSmall xs → AllByRecursion IsSmall ys → AllByRecursion IsSmall (xs ++ ys)
+small_append [] ys a b = b
+small_append (x ∷ xs) ys a b = (a.0, small_append xs ys a.1 b)
+
+small_pile : (g : Geometry) (image : Image) (tables : List ℕ) → AllByRecursion IsSmall (pile_items g image tables)
+small_pile g image [] = tt
+small_pile g image (x ∷ tables) = small_append (items_at g image x) (pile_items g image tables) (all_small (items_at g image x) (table_items-valid (extent_in g image x))) (small_pile g image tables)
+
+newest-among : (P : Item → Type 0) (key : List ℕ) (xs : List Item) (v : Item) → AllByRecursion P xs → newest_of key xs ≡ Some v → P v
+newest-among P key [] v all h = cc
+newest-among P key (x ∷ xs) v all h = by_rest (newest_of key xs) refl (λ w e. newest-among P key xs w all.1 e) (sym (newest_of-append key (x ∷ []) xs) ∙ h)
+  where
+    one : (a b : Item) → ◌≡◌ {A = Option Item} (Some a) (Some b) → a ≡ b
+    one a b e = cc
+
+    by_test : (same : Bool) → last_or None (cond same (x ∷ []) []) ≡ Some v → P v
+    by_test true h = subst P (one x v h) all.0
+    by_test false h = cc
+
+    by_rest : (o : Option Item) → newest_of key xs ≡ o → ((w : Item) → newest_of key xs ≡ Some w → P w) → newest_or (newest_of key (x ∷ [])) o ≡ Some v → P v
+    by_rest (Some w) e ih h = ih v (e ∙ h)
+    by_rest None e ih h = by_test (same_bytes x.key key) h
+
+-- ---- tables with their filters
+
+readable : (g : Geometry) (kept : List (Option (List ℕ))) (image : Image) (key : List ℕ) (tables : List ℕ)
+    → AllByRecursion (λ x. IsPlaced (newest (items_at g image x)) (extent_in g image x)) tables
+    → AllByRecursion (λ x. IsFalse (covers (extent_in g image x 64) (home_column key) key) → newest_of key (items_at g image x) ≡ None) tables
+    → AllByRecursion (KeepsFilter g kept image) tables → AllByRecursion (IsReadable g kept image key) tables
+readable g kept image key [] placed skips keeps = tt
+readable g kept image key (x ∷ tables) placed skips keeps =
+    (record { placed = placed.0; skipped = λ missing. skips.0 (subst (λ o. option_map_or (λ page. covers page (home_column key) key) o true ≡ false) keeps.0 missing) },
+    readable g kept image key tables placed.1 skips.1 keeps.1)
+
+-- ---- the image of an open store
+
+module _ (v : StoreView) (d : State) (device : told.State) (o : IsOpen v d device) (filters : ℕ) (k : IsKept v.named v.log v.memory v.taken filters v.writes) (key : List ℕ) where
+  pub open-image : open_image o.rest.image ≡ Ok (record { named = v.named; groups = o.groups })
+  open-image =
+      let image = o.rest.image in
+      let st = o.rest.each image o.rest.tells in
+      let is = opens-is image st.opened st.opens in
+      let named : st.opened.named ≡ v.named = ok_same st.opened.named v.named (sym is.named ∙ o.rest.names.read ∙ ap Ok o.named) in
+      let read : log_groups v.named.geometry image v.named.manifest.header.log_area v.named.manifest.header.writes ≡ Ok st.opened.groups
+          = subst (λ (n : Named). log_groups n.geometry image n.manifest.header.log_area n.manifest.header.writes ≡ Ok st.opened.groups) named is.log in
+      let log : log_groups v.named.geometry image v.named.manifest.header.log_area v.named.manifest.header.writes ≡ Ok o.groups
+          = subst (λ a. log_groups v.named.geometry image a v.named.manifest.header.writes ≡ Ok o.groups) k.area (subst (λ w. log_groups v.named.geometry image v.log.area w ≡ Ok o.groups) k.start o.log.read) in
+      let groups : st.opened.groups ≡ o.groups = ok_same st.opened.groups o.groups (sym read ∙ log) in
+      st.opens ∙ (λ i. Ok (record { named = named i; groups = groups i }))
+
+  pile : List Item
+  pile = pile_items v.named.geometry o.rest.image (root_pile v.named.manifest.trie)
+
+  opened : Opened
+  opened = record { named = v.named; groups = o.groups }
+
+  sound_as : StandsAs o.rest.image opened d
+  unfolding opened
+  sound_as = stands-as o.rest.image opened d open-image (o.rest.each o.rest.image o.rest.tells)
+
+  newest_stored : newest_of key (versions opened o.rest.image) ≡ newest_of key (pile ++ items_in o.groups)
+  unfolding opened pile
+  newest_stored =
+      let image = o.rest.image in
+      let well = opens-well image opened open-image in
+      let held = items_at v.named.geometry image in
+      let trie : Trie = v.named.manifest.trie in
+      sound-found opened image key well.rising sound_as.sound
+      ∙ ap (λ ss. option_or (newest_of key (items_in o.groups)) (first_some (λ (s : Stop). newest_of key (held s.extent)) ss)) (root-stops v.named.geometry.levels trie key (omega (arith, well.levels)) o.root_only.only)
+      ∙ ap (option_or (newest_of key (items_in o.groups))) (first_some-pile held key root 0 (root_pile trie))
+      ∙ sym (newest_or-is (newest_of key pile) (newest_of key (items_in o.groups)))
+      ∙ sym (newest_of-append key pile (items_in o.groups))
+
+  newest_all : newest_of key (versions opened o.rest.image ++ v.log.pending) ≡ newest_of key (pile ++ v.memory)
+  newest_all =
+      newest_of-append key (versions opened o.rest.image) v.log.pending
+      ∙ ap (λ w. newest_or w (newest_of key v.log.pending)) newest_stored
+      ∙ sym (newest_of-append key (pile ++ items_in o.groups) v.log.pending)
+      ∙ ap (newest_of key) (append_assoc pile (items_in o.groups) v.log.pending ∙ ap (λ xs. pile ++ xs) (sym o.memory))
+
+  -- the value of a key is that of its newest version in the pile and the memory table
+  value-newest : value_at (state_of v d).map key ≡ value_of (newest_of key (pile ++ v.memory))
+  value-newest =
+      ap (λ m. value_at (after_items m v.log.pending) key) (sym sound_as.map)
+      ∙ ap (λ m. value_at m key) (sym (fold-append applied empty_map (versions opened o.rest.image) v.log.pending))
+      ∙ get_versions (versions opened o.rest.image ++ v.log.pending) key
+      ∙ ap value_of newest_all
+
+  memory_small : AllByRecursion IsSmall v.memory
+  unfolding opened
+  memory_small = subst (λ xs. AllByRecursion IsSmall xs) (sym o.memory)
+      (small_append (items_in o.groups) v.log.pending (all_small (items_in o.groups) (log_items-valid o.rest.image opened open-image)) (few_small v.log.pending group_room k.room (omega arith)))
+
+  all_items_small : AllByRecursion IsSmall (pile ++ v.memory)
+  unfolding pile
+  all_items_small = small_append pile v.memory (small_pile v.named.geometry o.rest.image (root_pile v.named.manifest.trie)) memory_small
+
+  answered : (item : Option Item) (version : Option Version) (old new : List ℕ) → newest_of key (pile ++ v.memory) ≡ item → IsVersion item version old new → Answers new (value_at (state_of v d).map key) (Ok (value_len version))
+  answered item version old new is h =
+      subst (λ value. Answers new value (Ok (value_len version))) (sym value-newest)
+      (answers item (newest_of key (pile ++ v.memory)) version old new is (λ w e. newest-among IsSmall key (pile ++ v.memory) w all_items_small e) h)
+
+  -- the memory table's answer
+  pub answer-memory : (item : Item) (version : Version) (old new : List ℕ) → newest_of key v.memory ≡ Some item → (version ≡ version_of item) × (new ≡ page_with item old) → Answers new (value_at (state_of v d).map key) (Ok (value_len (Some version)))
+  answer-memory item version old new is h = answered (Some item) (Some version) old new (newest_of-append key pile v.memory ∙ ap (newest_or (newest_of key pile)) is) h
+
+  -- the pile's answer, where the memory table has none
+  pub answer-pile : (version : Option Version) (old new : List ℕ) → newest_of key v.memory ≡ None → IsVersion (newest_of key (pile_items v.named.geometry o.rest.image (root_pile v.named.manifest.trie))) version old new → Answers new (value_at (state_of v d).map key) (Ok (value_len version))
+  unfolding pile
+  answer-pile version old new none h = answered (newest_of key pile) version old new (newest_of-append key pile v.memory ∙ ap (newest_or (newest_of key pile)) none) h
+
+  -- the root's tables can be read
+  pub pile-readable : AllByRecursion (IsReadable v.named.geometry v.kept o.rest.image key) (root_pile v.named.manifest.trie)
+  unfolding opened
+  pile-readable = readable v.named.geometry v.kept o.rest.image key (root_pile v.named.manifest.trie) (named-placed o.rest.image opened root sound_as.sound) (named-skips o.rest.image opened root key sound_as.sound) o.filters
+
+  -- what a search of the pile answers, where it was given the store's parts
+  pub searched : (g : Geometry) (kept : List (Option (List ℕ))) (tables : List ℕ) (result : Result (Option Version) LookFault) (old new : List ℕ) → g ≡ v.named.geometry → kept ≡ v.kept → tables ≡ root_pile v.named.manifest.trie
+      → ((image : Image) → device.shown ≡ Some image → AllByRecursion (IsReadable g kept image key) tables → IsAnswer (newest_of key (pile_items g image tables)) result old new)
+      → IsAnswer (newest_of key (pile_items v.named.geometry o.rest.image (root_pile v.named.manifest.trie))) result old new
+  searched g kept tables result old new geometry filters_are pile_is h =
+      subst (λ xs. AllByRecursion (IsReadable v.named.geometry v.kept o.rest.image key) xs → IsAnswer (newest_of key (pile_items v.named.geometry o.rest.image xs)) result old new) pile_is
+      (subst (λ fs. AllByRecursion (IsReadable v.named.geometry fs o.rest.image key) tables → IsAnswer (newest_of key (pile_items v.named.geometry o.rest.image tables)) result old new) filters_are
+      (subst (λ (f : Geometry). AllByRecursion (IsReadable f kept o.rest.image key) tables → IsAnswer (newest_of key (pile_items f o.rest.image tables)) result old new) geometry (h o.rest.image o.rest.shown)))
+      pile-readable
+
+  -- a fault of a search is one of the get
+  pub answer-fault : (fault : LookFault) (old new : List ℕ) → IsAnswer (newest_of key (pile_items v.named.geometry o.rest.image (root_pile v.named.manifest.trie))) (Err fault) old new → Answers new (value_at (state_of v d).map key) (Err fault)
+  answer-fault Device old new h = tt
+  answer-fault (Damaged b) old new h = h
+
+-- ---- the extents of the root's tables lie on the device
+
+extent_within : (g : Geometry) (x extents blocks : ℕ) → extent_block g extents ≤ blocks → x < extents → extent_block g x + 65 ≤ blocks
+extent_within g x extents blocks within below = omega arith
+
+below_all : (extents : ℕ) (xs : List ℕ) → all_below extents xs ≡ true → AllByRecursion (λ x. x < extents) xs
+below_all extents [] h = tt
+below_all extents (x ∷ xs) h = let parts = and_parts (nat_lt x extents) (all_below extents xs) h in (ltb-true _ _ parts.0, below_all extents xs parts.1)
+
+all_within : (P Q : ℕ → Type 0) → ((x : ℕ) → P x → Q x) → (xs : List ℕ) → AllByRecursion P xs → AllByRecursion Q xs
+all_within P Q f [] all = tt
+all_within P Q f (x ∷ xs) all = (f x all.0, all_within P Q f xs all.1)
+
+pub tables-within : (levels extents blocks : ℕ) (g : Geometry) (trie : Trie) → IsTrie levels extents trie → extent_block g extents ≤ blocks → AllByRecursion (λ x. extent_block g x + 65 ≤ blocks) (root_pile trie)
+tables-within levels extents blocks g trie t within =
+    all_within (λ x. x < extents) (λ x. extent_block g x + 65 ≤ blocks) (λ x below. extent_within g x extents blocks within below) (root_pile trie)
+    (named-tables (λ x. x < extents) trie root (below_all extents (named trie) t.below))

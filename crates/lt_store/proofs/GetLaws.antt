@@ -1,0 +1,18 @@
+-- What a get finds.
+use Rattle.std.proofs.Common.{◌≡◌, ℕ, refl, sym, ap, ◌∙◌, List, Bool, true, false, cond}
+use Rattle.lt_terms.specs.declared.Kind.{Kind}
+use Rattle.lt_terms.specs.declared.Kind.TheVariants.{Put, Delete}
+use Rattle.lt_terms.specs.Items.{Item}
+use Rattle.lt_tables.specs.Merge.{is_put}
+use Rattle.lt_store.specs.declared.getting.Version.{Version}
+use Rattle.lt_store.specs.declared.getting.Version.TheVariants.{Value, Deleted}
+use Rattle.lt_store.specs.Getting.{shown_len, with_value, version_of, page_with}
+
+put_is : (item : Item) → item.kind ≡ Put → is_put item ≡ true
+put_is item h = ap (λ (k : Kind). elim k [ Put ↦ true | Delete ↦ false ]) h
+
+pub version_of-put : (item : Item) → item.kind ≡ Put → version_of item ≡ Value (shown_len item.value)
+version_of-put item h = ap (λ (b : Bool). cond b (Value (shown_len item.value)) Deleted) (put_is item h)
+
+pub page_with-put : (item : Item) (page : List ℕ) → item.kind ≡ Put → page_with item page ≡ with_value page item.value
+page_with-put item page h = ap (λ (b : Bool). cond b (with_value page item.value) page) (put_is item h)

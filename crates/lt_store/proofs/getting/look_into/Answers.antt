@@ -1,0 +1,39 @@
+use Rattle.std.proofs.Common.{◌≡◌, ℕ, refl, sym, ap, subst, ◌∙◌, Ok, Err, Some, None, List, Option}
+use Rattle.std.specs.Option.{option_map}
+use Rattle.std.proofs.lemmas.Result.{err_from_is_err_and}
+use Rattle.lt_terms.specs.Items.{Item}
+use Rattle.lt_item.specs.Views.{item_of}
+use Rattle.lt_tables.specs.Merge.{newest_of}
+use Rattle.lt_htable.specs.declared.faults.LookFault.TheVariants.{Device, Damaged}
+use Rattle.lt_htable.specs.Reading.{AnswersLook}
+use Rattle.lt_store.specs.Getting.{IsAnswer, IsVersion}
+use Rattle.lt_store.proofs.LookLaws.{looked_up-damaged}
+use Rattle.lt_store.proofs.getting.look_into.Goals as goal
+
+pub returns-in_err-item-clause-answer : goal.returns-in_err-item-clause-answer
+returns-in_err-item-clause-answer g c = λ image items told placed.
+    let fault = err_from_is_err_and c.from_residual.result c.from_residual.ensures.1 in
+    let device_is = c.in_err-item.ensures.placed image items told placed in
+    let failed : c.from_residual.result ≡ Err Device = cc (fault.1, fault.2, device_is) in
+    rw failed tt
+
+pub returns-in_err-item-clause-damaged_block : goal.returns-in_err-item-clause-damaged_block
+returns-in_err-item-clause-damaged_block g c = λ b is.
+    let fault = err_from_is_err_and c.from_residual.result c.from_residual.ensures.1 in
+    let damaged : c.look.result ≡ Err (Damaged b) = cc (c.in_err-item.was, fault.1, fault.2, is) in
+    let found = looked_up-damaged _ c.args.first c.args.key.now b (rw damaged at c.look.ensures.answer) in
+    (found.column, found.within, found.is)
+
+pub returns-in-Some-clause-answer : goal.returns-in-Some-clause-answer
+returns-in-Some-clause-answer g c = λ image items told placed.
+    let key : List ℕ = c.args.key.now in
+    let at = c.in_ok-item.ensures.placed image items told placed in
+    let here : Some (item_of c.in-Some.item) ≡ newest_of key items = ap (option_map item_of) (sym c.in-Some.is) ∙ at in
+    subst (λ (o : Option Item). IsVersion o (Some c.show.result) c.args.out.now c.show.new.out) here (c.show.ensures.version, c.show.ensures.page)
+
+pub returns-in-None-clause-answer : goal.returns-in-None-clause-answer
+returns-in-None-clause-answer g c = λ image items told placed.
+    let key : List ℕ = c.args.key.now in
+    let at = c.in_ok-item.ensures.placed image items told placed in
+    let none : None ≡ newest_of key items = ap (option_map item_of) (sym c.in-None.is) ∙ at in
+    subst (λ (o : Option Item). IsVersion o None c.args.out.now c.args.out.now) none refl

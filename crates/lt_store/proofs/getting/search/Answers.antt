@@ -1,0 +1,100 @@
+use Rattle.std.proofs.Common.{◌≡◌, ℕ, ◌+◌, ◌-◌, ◌*◌, ◌<◌, ◌≤◌, refl, sym, ap, subst, ◌∙◌, Bool, true, false, Some, None, Err, List, Option, length, get_or, drop, arith}
+use Rattle.std.specs.Prelude.{count_by}
+use Rattle.std.proofs.lemmas.Result.{err_from_is_err_and}
+use Rattle.lt_device.specs.State.{State}
+use Rattle.lt_device.specs.Reads.{CountsAtMost}
+use Rattle.lt_htable.specs.declared.faults.LookFault.{LookFault}
+use Rattle.lt_tables.specs.Merge.{newest, newest_of}
+use Rattle.lt_image.specs.Versions.{items_at, pile_items}
+use Rattle.lt_store.specs.declared.getting.Version.{Version}
+use Rattle.lt_store.specs.Getting.{IsAnswer, IsReadable, may_hold}
+use Rattle.lt_store.proofs.PileLaws.{all_at, placed-at, pile-found, pile-none, pile-skipped, same_page, answer-fault, count-asked, count-passed, count-part, counts-more, counts-fewer}
+use Rattle.lt_store.proofs.getting.search.Goals as goal
+
+pub returns-in_err-version-clause-answer : goal.returns-in_err-version-clause-answer
+returns-in_err-version-clause-answer g c = λ image told readable.
+    let so_far = c.loop-i.invariant in
+    let tables : List ℕ = c.args.tables.now in
+    let key : List ℕ = c.args.key.now in
+    let j : ℕ = c.loop-i.i - 1 in
+    let below : j < length tables = omega arith in
+    let fault = err_from_is_err_and c.from_residual.result c.from_residual.ensures.1 in
+    let answer = c.in_err-version.ensures.answer image (newest (items_at c.args.geometry.now image (get_or tables j 0))) (ap (λ (s : State). s.shown) so_far.state ∙ told)
+        (placed-at c.args.geometry.now c.args.filters.now image key tables j c.extent-first.result readable below c.extent-first.ensures) in
+    rw (fault.1, fault.2) (answer-fault (newest_of key (newest (items_at c.args.geometry.now image (get_or tables j 0)))) (newest_of key (pile_items c.args.geometry.now image tables)) _ c.args.out.now c.look_into.new.out
+    (subst (λ (page : List ℕ). IsAnswer (newest_of key (newest (items_at c.args.geometry.now image (get_or tables j 0)))) (Err c.in_err-version.field-0.0) page c.look_into.new.out) so_far.out answer))
+
+count_here : (p : ℕ → Bool) (tables : List ℕ) (i a b d : ℕ) → 0 < i → i ≤ length tables → p (get_or tables (i - 1) 0) ≡ true → CountsAtMost (2 * count_by p (drop i tables)) a b → CountsAtMost 2 b d → CountsAtMost (2 * count_by p (drop (i - 1) tables)) a d
+count_here p tables i a b d some within holds h l =
+    let below : i - 1 < length tables = omega arith in
+    let is : (i - 1) + 1 ≡ i = omega arith in
+    let one = count-asked p tables (i - 1) below holds in
+    let all : count_by p (drop (i - 1) tables) ≡ 1 + count_by p (drop i tables) = subst (λ n. count_by p (drop (i - 1) tables) ≡ 1 + count_by p (drop n tables)) is one in
+    counts-more (2 * count_by p (drop i tables)) 2 (2 * count_by p (drop (i - 1) tables)) a b d h l (omega (arith, all))
+
+pub returns-in_err-version-clause-count : goal.returns-in_err-version-clause-count
+returns-in_err-version-clause-count g c =
+    let p = may_hold c.args.filters.now c.args.key.now in
+    let tables : List ℕ = c.args.tables.now in
+    counts-fewer _ _ _ _ (count_here p tables c.loop-i.i _ _ _ c.loop-i-test.true (omega arith) (sym c.may_hold.ensures ∙ c.if-may_hold.true) c.loop-i.invariant.count c.look_into.ensures.count)
+    (let part = count-part p tables (c.loop-i.i - 1) in omega (arith, part))
+
+pub returns-then-is_some-clause-answer : goal.returns-then-is_some-clause-answer
+returns-then-is_some-clause-answer g c = λ image told readable.
+    let so_far = c.loop-i.invariant in
+    let tables : List ℕ = c.args.tables.now in
+    let key : List ℕ = c.args.key.now in
+    let j : ℕ = c.loop-i.i - 1 in
+    let below : j < length tables = omega arith in
+    let answer = c.in_ok-version.ensures.answer image (newest (items_at c.args.geometry.now image (get_or tables j 0))) (ap (λ (s : State). s.shown) so_far.state ∙ told)
+        (placed-at c.args.geometry.now c.args.filters.now image key tables j c.extent-first.result readable below c.extent-first.ensures) in
+    pile-found c.args.geometry.now image key tables c.loop-i.i j (omega arith) below (so_far.none image told readable) c.in_ok-version.version c.loop-i.out c.args.out.now c.look_into.new.out so_far.out (sym c.is_some.ensures ∙ c.if-is_some.true) answer
+
+pub returns-then-is_some-clause-count : goal.returns-then-is_some-clause-count
+returns-then-is_some-clause-count g c =
+    let p = may_hold c.args.filters.now c.args.key.now in
+    let tables : List ℕ = c.args.tables.now in
+    counts-fewer _ _ _ _ (count_here p tables c.loop-i.i _ _ _ c.loop-i-test.true (omega arith) (sym c.may_hold.ensures ∙ c.if-may_hold.true) c.loop-i.invariant.count c.look_into.ensures.count)
+    (let part = count-part p tables (c.loop-i.i - 1) in omega (arith, part))
+
+pub loop-i-preserved-else-is_some : goal.loop-i-preserved-else-is_some
+loop-i-preserved-else-is_some g c =
+    let so_far = c.loop-i.invariant in
+    let asked = c.look_into.ensures in
+    let p = may_hold c.args.filters.now c.args.key.now in
+    let tables : List ℕ = c.args.tables.now in
+    let key : List ℕ = c.args.key.now in
+    let j : ℕ = c.loop-i.i - 1 in
+    let below : j < length tables = omega arith in
+    record {
+      none = λ image told readable.
+          let answer = c.in_ok-version.ensures.answer image (newest (items_at c.args.geometry.now image (get_or tables j 0))) (ap (λ (s : State). s.shown) so_far.state ∙ told)
+              (placed-at c.args.geometry.now c.args.filters.now image key tables j c.extent-first.result readable below c.extent-first.ensures) in
+          pile-none c.args.geometry.now image key tables c.loop-i.i j (omega arith) below (so_far.none image told readable) c.in_ok-version.version c.loop-i.out c.look_into.new.out (sym c.is_some.ensures ∙ c.if-is_some.false) answer;
+      out = same_page c.in_ok-version.version c.loop-i.out c.look_into.new.out (sym c.is_some.ensures ∙ c.if-is_some.false) c.in_ok-version.ensures.page ∙ so_far.out;
+      state = asked.state ∙ so_far.state;
+      size = asked.size ∙ so_far.size;
+      count = count_here p tables c.loop-i.i _ _ _ c.loop-i-test.true (omega arith) (sym c.may_hold.ensures ∙ c.if-may_hold.true) so_far.count asked.count;
+      faults = omega (arith, so_far.faults, asked.later);
+    }
+
+pub loop-i-preserved : goal.loop-i-preserved
+loop-i-preserved g c =
+    let so_far = c.loop-i.invariant in
+    let p = may_hold c.args.filters.now c.args.key.now in
+    let tables : List ℕ = c.args.tables.now in
+    let key : List ℕ = c.args.key.now in
+    let j : ℕ = c.loop-i.i - 1 in
+    let below : j < length tables = omega arith in
+    let step : j + 1 ≡ c.loop-i.i = omega arith in
+    let no : may_hold c.args.filters.now key (get_or tables j 0) ≡ false = sym c.may_hold.ensures ∙ c.if-may_hold.false in
+    record {
+      none = λ image told readable.
+          pile-skipped c.args.geometry.now image key tables c.loop-i.i j step below (so_far.none image told readable)
+          ((all_at (IsReadable c.args.geometry.now c.args.filters.now image key) tables j readable below).skipped no);
+      out = so_far.out;
+      state = so_far.state;
+      size = so_far.size;
+      count = counts-fewer _ _ _ _ so_far.count (let passed = subst (λ n. count_by p (drop n tables) ≤ count_by p (drop j tables)) step (count-passed p tables j below) in omega (arith, passed));
+      faults = so_far.faults;
+    }

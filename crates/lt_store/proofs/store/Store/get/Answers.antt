@@ -1,0 +1,42 @@
+use Rattle.std.proofs.Common.{◌≡◌, ℕ, sym, ap, subst, ◌∙◌, Ok, Err, Some, None, List, vec_len}
+use Rattle.std.proofs.lemmas.Result.{err_from_is_err_and}
+use Rattle.std.specs.List.{AllByRecursion}
+use Rattle.lt_item.specs.Views.{item_of}
+use Rattle.lt_format.specs.declared.geometry.Geometry.{Geometry}
+use Rattle.lt_format.specs.Layout.{extent_block}
+use Rattle.lt_format.specs.Trie.{Trie, root, node_at}
+use Rattle.lt_store.specs.View.{view_of}
+use Rattle.lt_store.proofs.AnswerLaws.{answer-memory, answer-pile, answer-fault, searched, tables-within}
+use Rattle.lt_store.proofs.store.Store.get.Goals as goal
+use Rattle.lt_store.proofs.store.Store.get.Goals.{in-Some, in-None+in_ok-version-in-None}
+
+pub search-requires : goal.search-requires
+search-requires g c =
+    let k = c.args.self.now.kept c.requires.up in
+    rw (c.pile-tables.ensures, c.trie.ensures.nodes, c.args.self.now.geometry_is)
+    (tables-within _ _ _ c.args.self.now.manifest.geometry c.args.self.now.manifest.manifest.trie k.manifest.trie c.requires.within)
+
+pub returns-in_err-version-in-None-clause-answer :
+    goal.returns-in_err-version-in-None-clause-answer
+returns-in_err-version-in-None-clause-answer g c = λ durable opened.
+    let s = c.args.self.now in
+    let k = s.kept c.requires.up in
+    let fault = err_from_is_err_and c.from_residual.result c.from_residual.ensures.1 in
+    let tables_are = c.pile-tables.ensures ∙ ap (λ (t : Trie). (node_at t root).tables) c.trie.ensures.nodes in
+    let answer = searched (view_of s) durable (g.D.Device.state c.args.device.now) opened (vec_len s.filters) k c.args.key.now s.geometry c.deref.result.now c.pile-tables.result.now (Err c.in_err-version-in-None.field-0.0) c.args.out.now c.search.new.out s.geometry_is c.deref.ensures.value tables_are c.in_err-version-in-None.ensures.answer in
+    rw (fault.1, fault.2) (answer-fault (view_of s) durable (g.D.Device.state c.args.device.now) opened (vec_len s.filters) k c.args.key.now c.in_err-version-in-None.field-0.0 c.args.out.now c.search.new.out answer)
+
+pub returns-clause-answer : goal.returns-clause-answer
+returns-clause-answer g c = λ durable opened.
+    let s = c.args.self.now in
+    let k = s.kept c.requires.up in
+    elim c.match-get.branch [
+      in-Some w ↦
+        let at = answer-memory (view_of s) durable (g.D.Device.state c.args.device.now) opened (vec_len s.filters) k c.args.key.now (item_of w.in-Some.item) w.show.result c.args.out.now w.show.new.out (sym w.in-Some.ensures) (w.show.ensures.version, w.show.ensures.page) in
+        rw (w.out-is, c.value_len.ensures, w.version-is) at
+    | in-None+in_ok-version-in-None w ↦
+        let tables_are = w.pile-tables.ensures ∙ ap (λ (t : Trie). (node_at t root).tables) w.trie.ensures.nodes in
+        let answer = searched (view_of s) durable (g.D.Device.state c.args.device.now) opened (vec_len s.filters) k c.args.key.now s.geometry w.deref.result.now w.pile-tables.result.now (Ok w.in_ok-version-in-None.version) c.args.out.now w.search.new.out s.geometry_is w.deref.ensures.value tables_are w.in_ok-version-in-None.ensures.answer in
+        let at = answer-pile (view_of s) durable (g.D.Device.state c.args.device.now) opened (vec_len s.filters) k c.args.key.now w.in_ok-version-in-None.version c.args.out.now w.search.new.out (sym w.in-None.ensures) answer in
+        rw (w.out-is, c.value_len.ensures, w.version-is) at
+    ]

@@ -1,0 +1,97 @@
+-- What a get finds, and where it looks.
+use Rattle.std.specs.Prelude.{◌≡◌, ℕ, ◌+◌, ◌<◌, Bool, true, false, List, Option, Some, None, Result, Ok, Err, length, take, drop, min, count_by, slice_index_or, IsTrue, if◌then◌else◌}
+use Rattle.std.specs.Option.{option_map_or, is_some}
+use Rattle.lt_terms.specs.Bytes.{Image, block_len}
+use Rattle.lt_terms.specs.Items.{Item}
+use Rattle.lt_terms.specs.Hashes.{home_column}
+use Rattle.lt_page.specs.Page.{filled}
+use Rattle.lt_tables.specs.Filter.{covers, is_in}
+use Rattle.lt_tables.specs.Merge.{newest, newest_of, is_put}
+use Rattle.lt_tables.specs.Table.{IsPlaced}
+use Rattle.lt_format.specs.declared.geometry.Geometry.{Geometry}
+use Rattle.lt_format.specs.Layout.{extent_block}
+use Rattle.lt_htable.specs.declared.faults.LookFault.{LookFault}
+use Rattle.lt_htable.specs.declared.faults.LookFault.TheVariants.{Device, Damaged}
+use Rattle.lt_image.specs.Versions.{extent_in, items_at}
+use Rattle.lt_store.specs.declared.getting.Version.{Version}
+use Rattle.lt_store.specs.declared.getting.Version.TheVariants.{Value, Deleted}
+use Rattle.lt_store.specs.Open.{StoreView, root_pile}
+
+-- the value of a key is so long and stands at the front of the page, or there is none
+abbrev pub Finds : List ℕ → Option (List ℕ) → Option ℕ → Type 0
+Finds page (Some value) (Some n) = (length value ≡ n) × (take n page ≡ value)
+Finds page None None = Unit {0}
+Finds page value n = ⊥
+
+-- what a get answers where the key has this value; no block is damaged then
+abbrev pub Answers : List ℕ → Option (List ℕ) → Result (Option ℕ) LookFault → Type 0
+Answers page value (Ok found) = Finds page value found
+Answers page value (Err Device) = Unit {0}
+Answers page value (Err (Damaged block)) = ⊥
+
+-- a page stays as it is, but for the value that is put to its front
+abbrev pub KeepsRest : Option ℕ → List ℕ → List ℕ → Type 0
+KeepsRest None old new = new ≡ old
+KeepsRest (Some n) old new = drop n new ≡ drop n old
+
+abbrev pub KeepsPage : Result (Option ℕ) LookFault → List ℕ → List ℕ → Type 0
+KeepsPage (Ok found) old new = KeepsRest found old new
+KeepsPage (Err fault) old new = new ≡ old
+
+-- the filter that is kept of the table in an extent covers the key; where none is kept the table may hold it
+abbrev pub may_hold : List (Option (List ℕ)) → List ℕ → ℕ → Bool
+may_hold kept key x = option_map_or (λ page. covers page (home_column key) key) (slice_index_or kept x None) true
+
+-- how many tables a get asks at most: none where the memory table has the key
+abbrev pub asked : StoreView → List ℕ → ℕ
+asked v key = if is_some (newest_of key v.memory) then 0 else count_by (may_hold v.kept key) (root_pile v.named.manifest.trie)
+
+-- the block is that of a bucket of one of these extents
+pub record IsBucketOf (g : Geometry) (numbers : List ℕ) (block : ℕ) : Type 0 where
+  pub number : ℕ
+  pub among : IsTrue (is_in number numbers)
+  pub column : ℕ
+  pub within : column < 64
+  pub is : block ≡ extent_block g number + column
+
+-- the table in an extent is that of its newest items, and holds the key only where its filter covers it
+pub record IsReadable (g : Geometry) (kept : List (Option (List ℕ))) (image : Image) (key : List ℕ) (x : ℕ) : Type 0 where
+  pub placed : IsPlaced (newest (items_at g image x)) (extent_in g image x)
+  pub skipped : may_hold kept key x ≡ false → newest_of key (items_at g image x) ≡ None
+
+-- how many bytes of a value a page has room for
+abbrev pub shown_len : List ℕ → ℕ
+shown_len value = min (length value) block_len
+
+-- the page with a value at its front, as far as there is room
+abbrev pub with_value : List ℕ → List ℕ → List ℕ
+with_value page value = filled page 0 (take (shown_len value) value)
+
+-- what is told of an item, and the page with its value, where it has one
+abbrev pub version_of : Item → Version
+version_of item = if is_put item then Value (shown_len item.value) else Deleted
+
+abbrev pub page_with : Item → List ℕ → List ℕ
+page_with item page = if is_put item then with_value page item.value else page
+
+-- this is what was found
+abbrev pub IsVersion : Option Item → Option Version → List ℕ → List ℕ → Type 0
+IsVersion None None old new = new ≡ old
+IsVersion (Some item) (Some version) old new = (version ≡ version_of item) × (new ≡ page_with item old)
+IsVersion item version old new = ⊥
+
+abbrev pub IsAnswer : Option Item → Result (Option Version) LookFault → List ℕ → List ℕ → Type 0
+IsAnswer item (Ok version) old new = IsVersion item version old new
+IsAnswer item (Err Device) old new = Unit {0}
+IsAnswer item (Err (Damaged block)) old new = ⊥
+
+-- the length of a value; none of a delete
+abbrev pub value_len : Option Version → Option ℕ
+value_len None = None
+value_len (Some (Value n)) = Some n
+value_len (Some Deleted) = None
+
+-- the page stays as it is, but for a value that was found
+abbrev pub KeepsUnless : Result (Option Version) LookFault → List ℕ → List ℕ → Type 0
+KeepsUnless (Ok version) old new = KeepsRest (value_len version) old new
+KeepsUnless (Err fault) old new = new ≡ old

@@ -1,0 +1,201 @@
+//! Reading the value of a key.
+
+ghost use Rattle.std.specs.Prelude.{◌≡◌, ℕ, ◌+◌, ◌*◌, ◌<◌, ◌≤◌, List, Some, true, IsErrOf, IsTrue, count_by};
+ghost use Rattle.std.specs.List.{AllByRecursion};
+ghost use Rattle.lt_terms.specs.Bytes.{Image};
+ghost use Rattle.lt_terms.specs.Causes.{Rose};
+ghost use Rattle.lt_terms.specs.Items as terms;
+ghost use Rattle.lt_terms.specs.Items.{is_valid};
+ghost use Rattle.lt_terms.specs.Maps.{value_at};
+ghost use Rattle.lt_item.specs.Views.{item_of};
+ghost use Rattle.lt_item.specs.Parts.{parts_of, IsInRange};
+ghost use Rattle.lt_device.specs.Reads.{CountsAtMost};
+ghost use Rattle.lt_language.specs.Machine.{State};
+ghost use Rattle.lt_tables.specs.Merge.{newest_of, value_of};
+ghost use Rattle.lt_tables.specs.Table.{blocks_from, IsPlaced};
+ghost use Rattle.lt_format.specs.Layout.{extent_block};
+ghost use Rattle.lt_htable.specs.Reading.{IsNoBucket};
+ghost use Rattle.lt_image.specs.Versions.{pile_items};
+ghost use Rattle.lt_store.specs.Getting.{Answers, KeepsPage, KeepsUnless, IsAnswer, IsBucketOf, IsReadable, asked, may_hold, shown_len, with_value, version_of, page_with, value_len};
+ghost use Rattle.lt_store.specs.Open.{IsOpen, blocks_of, root_pile, state_of};
+ghost use Rattle.lt_store.specs.View.{view_of};
+
+use crate::store::Store;
+use lt_bloom::FilterPage;
+use lt_device::Device;
+use lt_format::{Geometry, NodeId};
+use lt_htable::{LookFault, look};
+use lt_item::{ItemView, Kind, Parts, parts_of};
+use lt_page::Page;
+
+const ROOT: NodeId = NodeId {
+    level: 0,
+    number: 0,
+};
+
+/// What was found of a key: a value of this length, or a delete.
+#[derive(Clone, Copy)]
+enum Version {
+    Value(u16),
+    Deleted,
+}
+
+impl Store {
+    /// Puts the value of a key to the front of a page and answers its length; `None` where the key has
+    /// no value. The newest write of the key counts, whether it is durable or not.
+    ///
+    /// It takes no memory. It reads nothing where the memory table has the key, and else at most two
+    /// blocks of each table of the root whose filter covers the key, the newest table first.
+    /// `Damaged` is a block that was read as a bucket and spells none.
+    pub fn get<D: Device>(
+        &mut self,
+        device: &mut D,
+        key: &[u8],
+        out: &mut Page,
+    ) -> Result<Option<u16>, LookFault>
+        requires up { self.old.is_up ≡ true }
+        requires within { blocks_of (view_of self.old) ≤ D.blocks device.old }
+        ensures answer { (durable : State) → IsOpen (view_of self.old) durable (D.state device.old)
+            → Answers out.new (value_at (state_of (view_of self.old) durable).map key.now) result }
+
+        // Whatever the device tells, a valid item of the memory table decides, and the device is not asked.
+        ensures in_memory { (item : terms.Item) → newest_of key.now (view_of self.old).memory ≡ Some item
+            → (device.new ≡ device.old) × (IsTrue (is_valid item) → Answers out.new (value_of (Some item)) result) }
+
+        ensures page { KeepsPage result out.old out.new }
+        ensures unchanged { view_of self.new ≡ view_of self.old }
+        ensures damaged { (b : ℕ) → IsErrOf result (LookFault.Damaged b) → IsNoBucket (D.state device.old).shown b }
+        ensures damaged_block { (b : ℕ) → IsErrOf result (LookFault.Damaged b) → IsBucketOf (view_of self.old).named.geometry (root_pile (view_of self.old).named.manifest.trie) b }
+        ensures cause { IsErrOf result LookFault.Device → Rose (D.faults device.old) (D.faults device.new) }
+        ensures later { D.faults device.old ≤ D.faults device.new }
+        ensures state { D.state device.new ≡ D.state device.old }
+        ensures size { D.blocks device.new ≡ D.blocks device.old }
+        ensures count { CountsAtMost (2 * asked (view_of self.old) key.now) (D.reads device.old) (D.reads device.new) }
+    {
+        let version = match self.memory.get(key) {
+            Some(item) => Some(show(&item, out)),
+            None => {
+                let tables = self.manifest.trie().pile(ROOT);
+                search(
+                    device,
+                    &self.geometry,
+                    tables,
+                    &self.filters,
+                    key,
+                    &mut self.page,
+                    out,
+                )?
+            }
+        };
+        Ok(value_len(version))
+    }
+}
+
+/// The newest version of a key in a pile of tables. It asks the newest table first, and passes over
+/// those whose filter does not cover the key.
+fn search<D: Device>(
+    device: &mut D,
+    geometry: &Geometry,
+    tables: &[u32],
+    filters: &[Option<FilterPage>],
+    key: &[u8],
+    page: &mut Page,
+    out: &mut Page,
+) -> Result<Option<Version>, LookFault>
+    requires { AllByRecursion (λ x. extent_block geometry.now x + 65 ≤ D.blocks device.old) tables.now }
+    ensures answer { (image : Image) → (D.state device.old).shown ≡ Some image
+        → AllByRecursion (IsReadable geometry.now filters.now image key.now) tables.now
+        → IsAnswer (newest_of key.now (pile_items geometry.now image tables.now)) result out.old out.new }
+    ensures page { KeepsUnless result out.old out.new }
+    ensures damaged { (b : ℕ) → IsErrOf result (LookFault.Damaged b) → IsNoBucket (D.state device.old).shown b }
+    ensures damaged_block { (b : ℕ) → IsErrOf result (LookFault.Damaged b) → IsBucketOf geometry.now tables.now b }
+    ensures cause { IsErrOf result LookFault.Device → Rose (D.faults device.old) (D.faults device.new) }
+    ensures later { D.faults device.old ≤ D.faults device.new }
+    ensures state { D.state device.new ≡ D.state device.old }
+    ensures size { D.blocks device.new ≡ D.blocks device.old }
+    ensures count { CountsAtMost (2 * count_by (may_hold filters.now key.now) tables.now) (D.reads device.old) (D.reads device.new) }
+{
+    let parts = parts_of(key);
+    for i in (0..tables.len()).rev() {
+        let extent = tables[i];
+        if may_hold(filters, extent, key, &parts) {
+            let first = geometry.extent(extent);
+            let version = look_into(device, first, key, &parts, page, out)?;
+            if version.is_some() {
+                return Ok(version);
+            }
+        }
+    }
+    Ok(None)
+}
+
+/// Whether the table in an extent may hold a key, as far as filters are kept.
+#[tactic(auto, unfolding(lt_item::specs::Parts::parts_of))]
+fn may_hold(filters: &[Option<FilterPage>], extent: u32, key: &[u8], parts: &Parts) -> bool
+    requires parts { parts.now ≡ parts_of key.now }
+    requires range { IsInRange parts.now }
+    ensures { result ≡ may_hold filters.now key.now extent }
+{
+    match filters.get(extent as usize) {
+        Some(Some(filter)) => filter.covers(parts.column, parts),
+        _ => true,
+    }
+}
+
+/// What the table whose extent begins at block `first` has of a key.
+fn look_into<D: Device>(
+    device: &mut D,
+    first: u64,
+    key: &[u8],
+    parts: &Parts,
+    page: &mut Page,
+    out: &mut Page,
+) -> Result<Option<Version>, LookFault>
+    requires within { first + 65 ≤ D.blocks device.old }
+    requires parts { parts.now ≡ parts_of key.now }
+    ensures answer { (image : Image) (items : List terms.Item) → (D.state device.old).shown ≡ Some image → IsPlaced items (blocks_from image first)
+        → IsAnswer (newest_of key.now items) result out.old out.new }
+    ensures page { KeepsUnless result out.old out.new }
+    ensures damaged { (b : ℕ) → IsErrOf result (LookFault.Damaged b) → IsNoBucket (D.state device.old).shown b }
+    ensures damaged_block { (b : ℕ) → IsErrOf result (LookFault.Damaged b) → (column : ℕ) × (column < 64) × (b ≡ first + column) }
+    ensures cause { IsErrOf result LookFault.Device → Rose (D.faults device.old) (D.faults device.new) }
+    ensures later { D.faults device.old ≤ D.faults device.new }
+    ensures state { D.state device.new ≡ D.state device.old }
+    ensures size { D.blocks device.new ≡ D.blocks device.old }
+    ensures count { CountsAtMost 2 (D.reads device.old) (D.reads device.new) }
+{
+    match look(device, first, key, parts, page)? {
+        Some(item) => Ok(Some(show(&item, out))),
+        None => Ok(None),
+    }
+}
+
+/// Puts the value of an item to the front of a page, as far as there is room; of a delete nothing.
+fn show(item: &ItemView<'_>, out: &mut Page) -> Version
+    ensures version { result ≡ version_of (item_of item.now) }
+    ensures page { out.new ≡ page_with (item_of item.now) out.old }
+{
+    match item.kind {
+        Kind::Put => Version::Value(put_front(item.value, out)),
+        Kind::Delete => Version::Deleted,
+    }
+}
+
+/// Puts a value to the front of a page, as far as there is room, and answers how many bytes it put.
+fn put_front(value: &[u8], out: &mut Page) -> u16
+    ensures len { result ≡ shown_len value.now }
+    ensures page { out.new ≡ with_value out.old value.now }
+{
+    let len = value.len().min(Page::LEN);
+    out.fill_from(0, &value[..len]);
+    len as u16
+}
+
+fn value_len(version: Option<Version>) -> Option<u16>
+    ensures { result ≡ value_len version }
+{
+    match version {
+        Some(Version::Value(len)) => Some(len),
+        _ => None,
+    }
+}
