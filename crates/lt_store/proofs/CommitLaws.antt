@@ -24,12 +24,12 @@ use Rattle.lt_store.specs.Open.{IsOpen, StoreView, root_pile}
 use Rattle.lt_store.proofs.FlushLaws.{Fits}
 use Rattle.lt_store.proofs.GoLaws.{goes-none}
 use Rattle.lt_store.proofs.GroupLaws.{group-open, group-survives, idle-open, after_none, items_in-more, take-whole}
-use Rattle.lt_store.proofs.MomentLaws.{Stays, open-same}
+use Rattle.lt_store.proofs.MomentLaws.{open-same}
 use Rattle.lt_store.proofs.SameLaws.{same-log}
 
 -- what a kept store says of its view
-pub kept-fits : (v : StoreView) (d : State) (s : told.State) (filters : ℕ) → IsOpen v d s → IsKept v.named v.log v.memory v.taken filters v.writes → Fits v
-kept-fits v d s filters o k =
+pub kept-fits : (v : StoreView) (d : State) (s : told.State) (taken : List Bool) (filters writes : ℕ) → IsOpen v d s → IsKept v.named v.log v.memory taken filters writes → Fits v
+kept-fits v d s taken filters writes o k =
     let valid = (and_parts (nat_le 2 v.named.geometry.levels) (nat_le v.named.geometry.levels 5) (and_parts _ (nat_le 1 v.named.geometry.slots) (and_parts _ (nat_le v.named.geometry.slots 512) k.manifest.geometry).0).0).0 in
     record {
       geometry = k.geometry;
@@ -56,12 +56,12 @@ module _ (v : StoreView) (d : State) (filters : ℕ) (old new : told.State) (k :
   -- nothing is lost at any moment
   pub commit-survives : 0 < length v.log.pending → Survives v [] d old new
   commit-survives some =
-      let f = kept-fits v d old filters o k in
+      let f = kept-fits v d old v.taken filters v.writes o k in
       group-survives v d old new o f (k.slot some) (any o.groups (sym o.slots) (group-fits v d old filters o k) (open-logs v d old o f)) inside
 
   pub commit-goes : Committed v.log old new → 0 < length v.log.pending → UnsyncedIn (λ _. ⊥) new → Goes v [] (committed v) d old new
   commit-goes done some sure =
-      let f = kept-fits v d old filters o k in
+      let f = kept-fits v d old v.taken filters v.writes o k in
       let p : List Item = v.log.pending in
       let run = any o.groups (sym o.slots) (group-fits v d old filters o k) (open-logs v d old o f) in
       record {

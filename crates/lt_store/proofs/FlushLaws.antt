@@ -36,11 +36,12 @@ use Rattle.lt_image.proofs.OpenLaws.{is-opens}
 use Rattle.lt_image.proofs.RootLaws.{root-flush, root-tables}
 use Rattle.lt_image.proofs.StandLaws.{flush-stands}
 use Rattle.lt_store.specs.Building.{InExtents, KeepsFilter}
+use Rattle.lt_store.specs.Flushing.{Stays, AreFree, flushed_log, flushed}
 use Rattle.lt_store.specs.Open.{IsOpen, IsRootOnly, StoreView, root_pile}
 use Rattle.lt_store.proofs.SameLaws.{Same, same-other, same-unnamed, same-names}
 use Rattle.lt_image.specs.Versions.{extent_in as extent_at}
 use Rattle.lt_tables.specs.Table.{IsPlaced}
-use Rattle.lt_store.proofs.MomentLaws.{Stays, IsReady, IsSteady, open-steady, open-names, open-ready, open-agrees, open-same, open-from, keeps-same, same-stays, same-ready, sure-agrees}
+use Rattle.lt_store.proofs.MomentLaws.{IsReady, IsSteady, open-steady, open-names, open-ready, open-agrees, open-same, open-from, keeps-same, same-stays, same-ready, sure-agrees}
 
 -- what a store in memory says of its view, whatever the device holds
 pub record Fits (v : StoreView) : Type 0 where
@@ -65,6 +66,10 @@ clearing-stays v d old new o fits run =
     let run'' = subst (λ k. ConfinedTo (InLogArea v.named.geometry (other_area k)) old new) fits.area run' in
     keeps-same v d (InLogArea v.named.geometry (other_area v.named.manifest.header.log_area)) old new o run'' (λ a b names same. same-other v.named a b fits.area_small same)
 
+-- the log with the other area cleared fits as before
+pub cleared-fits : (v : StoreView) → Fits v → Fits (cleared v)
+cleared-fits v fits = record { geometry = fits.geometry; area = fits.area; start = fits.start; area_small = fits.area_small; pile = fits.pile }
+
 -- and once it is sure the store is open as before
 pub cleared-open : (v : StoreView) (d : State) (old new : told.State) (o : IsOpen v d old) → Fits v → ConfinedTo (InLogArea v.log.geometry (other_area v.log.area)) old new → UnsyncedIn (λ _. ⊥) new → IsOpen (cleared v) d new
 cleared-open v d old new o fits run sure =
@@ -76,11 +81,6 @@ cleared-open v d old new o fits run sure =
     (sure-agrees (λ n. IsTrue (is_free_block v.named n)) new now sure)
 
 -- ---- tables in free extents
-
--- these extents are the store's, and none is named
-pub record AreFree (m : Named) (numbers : List ℕ) : Type 0 where
-  pub below : (x : ℕ) → is_in x numbers ≡ true → x < m.manifest.header.extents
-  pub unnamed : (x : ℕ) → is_in x numbers ≡ true → is_in x (named m.manifest.trie) ≡ false
 
 free-block : (m : Named) (numbers : List ℕ) → AreFree m numbers → (n : ℕ) → InExtents m.geometry numbers n → IsTrue (is_free_block m n)
 free-block m numbers free n inside =
@@ -170,13 +170,6 @@ all-append : (P : ℕ → Type 0) (xs ys : List ℕ) → AllByRecursion P xs →
 all-append P [] ys one two = two
 all-append P (x ∷ xs) ys one two = (one.0, all-append P xs ys one.1 two)
 
-abbrev pub flushed_log : LogState → Header → LogState
-flushed_log log header = record { geometry = log.geometry; area = other_area log.area; writes = header.writes; slots = 0; pending = []; cleared = false }
-
--- the store after a flush
-abbrev pub flushed : StoreView → Named → Header → StoreView
-flushed v n header = record v { named = n; log = flushed_log v.log header; memory = [] }
-
 module _ (v : StoreView) (d : State) (old new : told.State) (o : IsOpen v d old) (fits : Fits v) (numbers : List ℕ) (header : Header)
     (idle : v.log.pending ≡ []) (other : header.log_area ≡ other_area v.named.manifest.header.log_area) (writes : header.writes ≡ v.named.manifest.header.writes + length v.memory)
     (clear : HasLog v.named.geometry (other_area v.named.manifest.header.log_area) header.writes [] o.rest.image)
@@ -262,3 +255,10 @@ module _ (v : StoreView) (d : State) (old new : told.State) (o : IsOpen v d old)
       let is : ◌≡◌ {A = Named} n (record { geometry = v.named.geometry; area = n.area; manifest = after_commit v.named.manifest (flush numbers) header }) = λ i. record { geometry = geometry i; area = n.area; manifest = manifest i } in
       subst (λ (n : Named). IsOpen (flushed v n header) d new) (sym is)
       (commit_open n.area run (λ left may. subst (λ (n : Named). HasNew n o.rest.image left) is (each left may)) sure kept)
+
+-- the store in memory after a flush
+pub flushed-view : (v : StoreView) (n : Named) (header : Header) (log : LogState) (memory : List Item) → v.log.pending ≡ [] → log ≡ record v.log { area = other_area v.log.area; writes = header.writes; slots = 0; cleared = false } → memory ≡ []
+    → record v { named = n; log = log; memory = memory } ≡ flushed v n header
+flushed-view v n header log memory idle is none =
+    let log_is : log ≡ flushed_log v.log header = is ∙ (λ i. record v.log { area = other_area v.log.area; writes = header.writes; slots = 0; pending = idle i; cleared = false }) in
+    λ i. record v { named = n; log = log_is i; memory = none i }

@@ -9,7 +9,7 @@ use Rattle.lt_language.specs.Machine.{State}
 use Rattle.lt_image.specs.Standing.{Stands, IsPrefix, after_writes}
 use Rattle.lt_store.specs.Open.{IsOpen, StoreView}
 use Rattle.lt_store.specs.Going.{Survives, Goes}
-use Rattle.lt_store.proofs.MomentLaws.{Stays}
+use Rattle.lt_store.specs.Flushing.{Stays}
 use Rattle.lt_store.proofs.GroupLaws.{after_none, prefix-none}
 
 take-short : (n : ℕ) (xs ys : List Item) → n ≤ length xs → take n (xs ++ ys) ≡ take n xs

@@ -10,4 +10,5 @@ pub mod LookLaws
 pub mod MomentLaws
 pub mod NumberLaws
 pub mod PileLaws
+pub mod PrepareLaws
 pub mod SameLaws

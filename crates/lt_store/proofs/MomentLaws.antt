@@ -23,13 +23,10 @@ use Rattle.lt_redo.specs.Slots.{HasLog}
 use Rattle.lt_image.specs.Standing.{Stands, is_free_block, after_writes, IsPrefix}
 use Rattle.lt_image.specs.OnPath.{has_only_root}
 use Rattle.lt_store.specs.Building.{InExtents, KeepsFilter}
+use Rattle.lt_store.specs.Flushing.{Stays}
 use Rattle.lt_store.specs.Open.{AtRest, IsOpen, IsRootOnly, StoreView, root_pile}
 use Rattle.lt_store.specs.Going.{Survives, Goes}
 use Rattle.lt_store.proofs.SameLaws.{Same, same-refl, same-trans, same-names, same-stands, same-log, same-filters, same-free}
-
--- each image stands for the state
-abbrev pub Stays : State → told.State → told.State → Type 0
-Stays d old new = Leaves (λ left. Stands left d) old new
 
 -- what an open store has of one image
 pub record IsReady (v : StoreView) (d : State) (groups : List (List Item)) (image : Image) : Type 0 where

@@ -1,5 +1,7 @@
 pub mod Building
 pub mod Committing
+pub mod Faults
+pub mod Flushing
 pub mod Getting
 pub mod Going
 pub mod Kept

@@ -3,6 +3,7 @@
 use lt_htable::BuildFault;
 use lt_node::CommitFault;
 use lt_page::{Failed, NoMemory};
+use std::alloc::AllocError;
 
 /// Why a store was not made.
 #[derive(Clone, Copy, Debug, PartialEq, Eq)]
@@ -44,6 +45,43 @@ impl From<NoMemory> for WriteFault {
     ghost from_gives = { λ _ fault. fault ≡ faults.NoMemory };
 
     fn from(_: NoMemory) -> WriteFault {
+        WriteFault::NoMemory
+    }
+}
+
+impl From<BuildFault> for WriteFault {
+    ghost use Rattle.lt_store.specs.Faults.{IsBuildFault};
+
+    ghost from_gives = { IsBuildFault };
+
+    fn from(fault: BuildFault) -> WriteFault {
+        match fault {
+            BuildFault::Device => WriteFault::Device,
+            BuildFault::NoMemory => WriteFault::NoMemory,
+        }
+    }
+}
+
+impl From<CommitFault> for WriteFault {
+    ghost use Rattle.lt_store.specs.Faults.{IsCommitFault};
+
+    ghost from_gives = { IsCommitFault };
+
+    fn from(fault: CommitFault) -> WriteFault {
+        match fault {
+            CommitFault::Device => WriteFault::Device,
+            CommitFault::NoMemory => WriteFault::NoMemory,
+        }
+    }
+}
+
+impl From<AllocError> for WriteFault {
+    ghost use Rattle.std.specs.Prelude.{◌≡◌};
+    ghost use Rattle.lt_store.specs.declared.faults.WriteFault.TheVariants as faults;
+
+    ghost from_gives = { λ _ fault. fault ≡ faults.NoMemory };
+
+    fn from(_: AllocError) -> WriteFault {
         WriteFault::NoMemory
     }
 }

@@ -5,6 +5,7 @@ mod building;
 mod committing;
 mod cutting;
 mod faults;
+mod flushing;
 mod getting;
 mod store;
 

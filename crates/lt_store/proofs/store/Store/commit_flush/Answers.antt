@@ -1,0 +1,77 @@
+use Rattle.std.proofs.Common.{◌≡◌, ℕ, ◌+◌, ◌-◌, ◌<◌, ◌≤◌, ap, sym, subst, ◌∙◌, [], List, length, true, arith}
+use Rattle.lt_terms.specs.Bytes.{Image}
+use Rattle.lt_device.specs.Moments.{MayLeave}
+use Rattle.lt_format.specs.declared.header.Header.{Header}
+use Rattle.lt_format.specs.Naming.{Named}
+use Rattle.lt_format.specs.Trie.{all_distinct}
+use Rattle.lt_language.specs.Machine.{State}
+use Rattle.lt_manifest.specs.Moments.{Names}
+use Rattle.lt_redo.specs.LogState.{other_area}
+use Rattle.lt_store.specs.Flushing.{AreFree, IsPrepared}
+use Rattle.lt_store.specs.Open.{IsOpen, StoreView}
+use Rattle.lt_store.specs.View.{view_of}
+use Rattle.lt_store.proofs.CommitLaws.{kept-fits}
+use Rattle.lt_store.proofs.FlushLaws.{Fits, commit-stays, flushed-open, flushed-view}
+use Rattle.lt_store.proofs.MomentLaws.{open-names, open-same}
+use Rattle.lt_store.proofs.PrepareLaws.{may-flush}
+use Rattle.lt_store.proofs.SameLaws.{same-names}
+use Rattle.lt_store.proofs.store.Store.commit_flush.Goals as goal
+
+-- each image that a crash may leave names the manifest
+each_names : (v : StoreView) (d : State) (s : _) (o : IsOpen v d s) → (left : Image) → MayLeave s left → Names v.named left
+each_names v d s o left may = same-names v.named o.rest.image left (open-same v d s o left may) (open-names v d s o)
+
+pub commit-requires-clause-may : goal.commit-requires-clause-may
+commit-requires-clause-may g c =
+    let v : StoreView = view_of c.args.self.now in
+    let kept = c.requires.kept.kept in
+    let numbers : c.of.result ≡ c.args.numbers.now = c.of.ensures ∙ c.in_ok-from_slice.ensures.items in
+    let header : c.header-header.result ≡ v.named.manifest.header = c.header-header.ensures.header in
+    let area : c.header-header.result.log_area ≡ v.named.manifest.header.log_area = ap (λ (h : Header). h.log_area) header in
+    let small : v.named.manifest.header.log_area < 2 = kept.manifest.log_area in
+    let number = kept.number in
+    may-flush v.named c.of.result (record { log_area = 1 - c.header-header.result.log_area; extents = c.header-header.result.extents; writes = c.args.self.now.writes })
+    (subst (AreFree v.named) (sym numbers) c.requires.free) (subst (λ xs. all_distinct xs ≡ true) (sym numbers) c.requires.distinct) (subst (λ xs. 1 ≤ length xs) (sym numbers) c.requires.some) kept.manifest.most (ap (λ (h : Header). h.extents) header)
+    (omega (arith, area, small)) (omega (arith, number))
+
+pub returns-in_err-commit-clause-stays : goal.returns-in_err-commit-clause-stays
+returns-in_err-commit-clause-stays g c = λ d o p.
+    let v : StoreView = view_of c.args.self.now in
+    let kept = c.requires.kept.kept in
+    let fits : Fits v = kept-fits v d (g.D.Device.state c.args.device.now) c.requires.kept.taken _ _ o kept in
+    let numbers : c.of.result ≡ c.args.numbers.now = c.of.ensures ∙ c.in_ok-from_slice.ensures.items in
+    let is : c.header-header.result ≡ v.named.manifest.header = c.header-header.ensures.header in
+    let header : Header = record { log_area = 1 - c.header-header.result.log_area; extents = c.header-header.result.extents; writes = c.args.self.now.writes } in
+    let other : header.log_area ≡ other_area v.named.manifest.header.log_area = ap (λ (h : Header). 1 - h.log_area) is in
+    let ready : IsPrepared v c.of.result o.rest.image = subst (λ xs. IsPrepared v xs o.rest.image) (sym numbers) p in
+    let run = c.commit.ensures.any_moment o.rest.image o.rest.shown (each_names v d (g.D.Device.state c.args.device.now) o) in
+    commit-stays v d (g.D.Device.state c.args.device.now) (g.D.Device.state c.commit.new.device) o fits c.of.result header c.requires.idle other kept.number ready.clear ready.placed run c.commit.ensures.confined
+
+pub returns-clause-stays : goal.returns-clause-stays
+returns-clause-stays g c = λ d o p.
+    let v : StoreView = view_of c.args.self.now in
+    let kept = c.requires.kept.kept in
+    let fits : Fits v = kept-fits v d (g.D.Device.state c.args.device.now) c.requires.kept.taken _ _ o kept in
+    let numbers : c.of.result ≡ c.args.numbers.now = c.of.ensures ∙ c.in_ok-from_slice.ensures.items in
+    let is : c.header-header.result ≡ v.named.manifest.header = c.header-header.ensures.header in
+    let header : Header = record { log_area = 1 - c.header-header.result.log_area; extents = c.header-header.result.extents; writes = c.args.self.now.writes } in
+    let other : header.log_area ≡ other_area v.named.manifest.header.log_area = ap (λ (h : Header). 1 - h.log_area) is in
+    let ready : IsPrepared v c.of.result o.rest.image = subst (λ xs. IsPrepared v xs o.rest.image) (sym numbers) p in
+    let run = c.commit.ensures.any_moment o.rest.image o.rest.shown (each_names v d (g.D.Device.state c.args.device.now) o) in
+    commit-stays v d (g.D.Device.state c.args.device.now) (g.D.Device.state c.commit.new.device) o fits c.of.result header c.requires.idle other kept.number ready.clear ready.placed run c.commit.ensures.confined
+
+pub returns-clause-opened : goal.returns-clause-opened
+returns-clause-opened g c = λ d o p.
+    let v : StoreView = view_of c.args.self.now in
+    let kept = c.requires.kept.kept in
+    let fits : Fits v = kept-fits v d (g.D.Device.state c.args.device.now) c.requires.kept.taken _ _ o kept in
+    let numbers : c.of.result ≡ c.args.numbers.now = c.of.ensures ∙ c.in_ok-from_slice.ensures.items in
+    let is : c.header-header.result ≡ v.named.manifest.header = c.header-header.ensures.header in
+    let header : Header = record { log_area = 1 - c.header-header.result.log_area; extents = c.header-header.result.extents; writes = c.args.self.now.writes } in
+    let other : header.log_area ≡ other_area v.named.manifest.header.log_area = ap (λ (h : Header). 1 - h.log_area) is in
+    let ready : IsPrepared v c.of.result o.rest.image = subst (λ xs. IsPrepared v xs o.rest.image) (sym numbers) p in
+    let run = c.commit.ensures.any_moment o.rest.image o.rest.shown (each_names v d (g.D.Device.state c.args.device.now) o) in
+    subst (λ (w : StoreView). IsOpen w d (g.D.Device.state c.commit.new.device))
+    (sym (flushed-view v c.commit.new.self header c.turn.new.self c.clear.new.self c.requires.idle c.turn.ensures c.clear.ensures))
+    (flushed-open v d (g.D.Device.state c.args.device.now) (g.D.Device.state c.commit.new.device) o fits c.of.result header c.requires.idle other kept.number ready.clear ready.placed
+    c.commit.new.self c.commit.ensures.geometry c.in_ok-commit.ensures.changed run (c.in_ok-commit.ensures.committed o.rest.image o.rest.shown (each_names v d (g.D.Device.state c.args.device.now) o)) c.in_ok-commit.ensures.sure ready.filters)

@@ -1,0 +1,17 @@
+-- Faults of the layers below as faults of a store.
+use Rattle.std.specs.Prelude.{◌≡◌}
+use Rattle.lt_htable.specs.declared.faults.BuildFault.{BuildFault}
+use Rattle.lt_htable.specs.declared.faults.BuildFault.TheVariants as builds
+use Rattle.lt_node.specs.declared.fault.CommitFault.{CommitFault}
+use Rattle.lt_node.specs.declared.fault.CommitFault.TheVariants as commits
+use Rattle.lt_store.specs.declared.faults.WriteFault.{WriteFault}
+use Rattle.lt_store.specs.declared.faults.WriteFault.TheVariants as writes
+
+-- the same fault
+abbrev pub IsBuildFault : BuildFault → WriteFault → Type 0
+IsBuildFault builds.Device fault = fault ≡ writes.Device
+IsBuildFault builds.NoMemory fault = fault ≡ writes.NoMemory
+
+abbrev pub IsCommitFault : CommitFault → WriteFault → Type 0
+IsCommitFault commits.Device fault = fault ≡ writes.Device
+IsCommitFault commits.NoMemory fault = fault ≡ writes.NoMemory

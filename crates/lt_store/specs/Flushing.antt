@@ -1,0 +1,52 @@
+-- What a flush does to the store in memory.
+use Rattle.std.specs.Prelude.{◌≡◌, ℕ, ◌+◌, ◌<◌, Bool, true, false, List, [], length, IsTrue}
+use Rattle.std.specs.List.{AllByRecursion}
+use Rattle.lt_device.specs.Moments.{Leaves}
+use Rattle.lt_device.specs.State as told
+use Rattle.lt_language.specs.Machine.{State}
+use Rattle.lt_tables.specs.Filter.{is_in}
+use Rattle.lt_tables.specs.Cut.{cut}
+use Rattle.lt_tables.specs.Merge.{newest}
+use Rattle.lt_terms.specs.Items.{Item}
+use Rattle.lt_terms.specs.Bytes.{Image}
+use Rattle.lt_format.specs.declared.header.Header.{Header}
+use Rattle.lt_format.specs.Naming.{Named}
+use Rattle.lt_format.specs.Trie.{named}
+use Rattle.lt_redo.specs.LogState.{LogState, other_area}
+use Rattle.lt_redo.specs.Slots.{HasLog}
+use Rattle.lt_image.specs.After.{PlacedIn}
+use Rattle.lt_image.specs.Standing.{Stands}
+use Rattle.lt_store.specs.Building.{KeepsFilter}
+use Rattle.lt_store.specs.Kept.{IsKept}
+use Rattle.lt_store.specs.Open.{StoreView}
+
+-- each image since stands for the state
+abbrev pub Stays : State → told.State → told.State → Type 0
+Stays d old new = Leaves (λ left. Stands left d) old new
+
+-- the facts that a store keeps, for some flags of its extents
+pub record SomeKept (v : StoreView) : Type 0 where
+  pub taken : List Bool
+  pub kept : IsKept v.named v.log v.memory taken (length v.kept) v.writes
+
+-- these extents are the store's, and none is named
+pub record AreFree (m : Named) (numbers : List ℕ) : Type 0 where
+  pub below : (x : ℕ) → is_in x numbers ≡ true → x < m.manifest.header.extents
+  pub unnamed : (x : ℕ) → is_in x numbers ≡ true → is_in x (named m.manifest.trie) ≡ false
+
+-- the header after a flush: the other log area, and all writes
+abbrev pub flush_header : StoreView → Header
+flush_header v = record { log_area = other_area v.named.manifest.header.log_area; extents = v.named.manifest.header.extents; writes = v.writes }
+
+abbrev pub flushed_log : LogState → Header → LogState
+flushed_log log header = record { geometry = log.geometry; area = other_area log.area; writes = header.writes; slots = 0; pending = []; cleared = false }
+
+-- the store after a flush
+abbrev pub flushed : StoreView → Named → Header → StoreView
+flushed v n header = record v { named = n; log = flushed_log v.log header; memory = [] }
+
+-- the other log area is empty, and the tables of the memory table's newest items stand in these extents, with their filters kept
+pub record IsPrepared (v : StoreView) (numbers : List ℕ) (image : Image) : Type 0 where
+  pub clear : HasLog v.named.geometry (other_area v.named.manifest.header.log_area) v.writes [] image
+  pub placed : PlacedIn v.named.geometry image numbers (cut (newest v.memory))
+  pub filters : AllByRecursion (KeepsFilter v.named.geometry v.kept image) numbers
