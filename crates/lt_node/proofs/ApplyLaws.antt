@@ -14,7 +14,7 @@ use Rattle.lt_node.specs.View.{TrieView, IsView, IsKept}
 use Rattle.lt_node.specs.Changing.{with_entry, dealt_entry, changed}
 use Rattle.lt_node.proofs.TotalLaws.{with_node-total, total_few, pile_few, new_few}
 
-higher : (q id : NodeId) → id.number + 1 ≤ q.number → q ≡ id → ⊥
+pub higher : (q id : NodeId) → id.number + 1 ≤ q.number → q ≡ id → ⊥
 higher q id above same = let number : q.number ≡ id.number = ap (λ (n : NodeId). n.number) same in omega arith
 
 dealt_sets : (levels : ℕ) (trie now : Trie) (node : NodeId) (from : ℕ) (cs : List ChildChange) → children_fit levels trie node from cs ≡ true → ((q : NodeId) → from ≤ q.number → node_at now q ≡ node_at trie q) → fold after_child now cs ≡ fold with_entry now (map (dealt_entry trie) cs)

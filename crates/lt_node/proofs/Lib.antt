@@ -4,3 +4,4 @@ pub mod MarkLaws
 pub mod FitLaws
 pub mod TotalLaws
 pub mod ApplyLaws
+pub mod AfterLaws
