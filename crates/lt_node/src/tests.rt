@@ -1,3 +1,5 @@
+ghost use Rattle.std.specs.Prelude.{◌+◌, ◌<◌, [], ◌∷◌};
+
 use crate::{Change, ChildChange, Children, CommitFault, NodeId, Numbers, Trie, path};
 use lt_item::parts_of;
 use lt_page::{Failed, NoMemory};
@@ -9,14 +11,9 @@ const ROOT: NodeId = NodeId {
     number: 0,
 };
 
-const INNER: NodeId = NodeId {
+const CHILD: NodeId = NodeId {
     level: 1,
     number: 3,
-};
-
-const LAST: NodeId = NodeId {
-    level: 2,
-    number: 29,
 };
 
 fn numbers(alloc: Global, list: &[u32]) -> Result<Numbers, NoMemory> {
@@ -29,26 +26,24 @@ fn flush(alloc: Global, tables: &[u32]) -> Result<Change, NoMemory> {
     })
 }
 
-/// A deal to one child.
+/// A deal of the root's oldest table to one child.
 fn deal(
     alloc: Global,
     node: NodeId,
-    dropped: u32,
-    child: NodeId,
     tables: &[u32],
     kept_groups: u32,
     groups: &[u32],
 ) -> Result<Change, NoMemory> {
-    let change = ChildChange {
-        node: child,
+    let child = ChildChange {
+        node,
         tables: numbers(alloc, tables)?,
         kept_groups,
         groups: numbers(alloc, groups)?,
     };
     Ok(Change::Deal {
-        node,
-        dropped,
-        children: Children::of(vec![in alloc; change]?),
+        node: ROOT,
+        dropped: 1,
+        children: Children::of(vec![in alloc; child]?),
     })
 }
 
@@ -65,8 +60,8 @@ fn rewrite(
     })
 }
 
-/// Makes the change where it fits, and says whether it did.
-fn made(alloc: Global, trie: &mut Trie, change: Change) -> Result<bool, NoMemory> {
+/// Makes the change where it fits, and says whether it does.
+fn make(alloc: Global, trie: &mut Trie, change: Change) -> Result<bool, NoMemory> {
     if !trie.fits(&change) {
         return Ok(false);
     }
@@ -74,98 +69,114 @@ fn made(alloc: Global, trie: &mut Trie, change: Change) -> Result<bool, NoMemory
     Ok(true)
 }
 
-/// So many numbers from one on.
-fn range(alloc: Global, first: u32, count: u32) -> Result<Vec<u32>, NoMemory>
-    requires { first + count < 65536 }
+/// A trie of so many levels after a flush of two tables.
+fn flushed(alloc: Global, levels: u8) -> Result<Trie, NoMemory>
+    requires least { 1 < levels }
+    requires most { levels < 6 }
+{
+    let mut trie = Trie::new(alloc, levels)?;
+    let _ = make(alloc, &mut trie, flush(alloc, &[7, 5])?)?;
+    Ok(trie)
+}
+
+/// As many numbers, from 100 on.
+fn many(alloc: Global, count: u32) -> Result<Vec<u32>, NoMemory>
+    requires { count < 100 }
 {
     let mut list = Vec::new(alloc);
-    for number in first..first + count {
-        list.push(number)?;
+    for number in 0..count {
+        list.push(100 + number)?;
     }
     Ok(list)
 }
 
 #[test]
-fn changes_are_made_one_after_another(rt: HostRuntime) -> Result<(), Fail> {
+fn flushes_append_to_the_root(rt: HostRuntime) -> Result<(), Fail> {
     let alloc = rt.alloc();
-    let mut trie = Trie::new(alloc, 3)?;
-    let many = range(alloc, 100, 63)?;
-    let more = range(alloc, 200, 2)?;
-    let steps = [
-        (flush(alloc, &[7, 5])?, true),
-        (flush(alloc, &[9])?, true),
-        (deal(alloc, ROOT, 2, INNER, &[11, 12], 0, &[])?, true),
-        (deal(alloc, INNER, 1, LAST, &many, 0, &[300])?, true),
-        (deal(alloc, INNER, 1, LAST, &more, 0, &[301, 302])?, true),
-    ];
-    for (change, fits) in steps {
-        assert_eq!(rt; made(alloc, &mut trie, change)?, fits);
-    }
-    assert_eq!(rt; trie.pile(ROOT), [9].as_slice());
-    assert_eq!(rt; trie.pile(INNER), [].as_slice());
-    assert_eq!(rt; trie.pile(LAST).len(), 65);
-    assert_eq!(rt; trie.groups(LAST), [301, 302].as_slice());
-    assert_eq!(rt; trie.tables(), 66);
-    assert_eq!(rt; trie.base(LAST), 0);
-
-    let change = deal(alloc, ROOT, 1, INNER, &[13], 0, &[])?;
-    assert!(rt; made(alloc, &mut trie, change)?);
-    let change = deal(alloc, INNER, 1, LAST, &[14], 1, &[303])?;
-    assert!(rt; made(alloc, &mut trie, change)?);
-    assert_eq!(rt; trie.groups(LAST), [301, 303].as_slice());
-    assert_eq!(rt; trie.pile(LAST)[65], 14);
-
-    let change = rewrite(alloc, LAST, &[21, 22], &[23])?;
-    assert!(rt; made(alloc, &mut trie, change)?);
-    assert_eq!(rt; trie.base(LAST), 2);
-    assert_eq!(rt; trie.referenced(alloc)?.as_slice(), [21, 22, 23].as_slice());
+    let mut trie = flushed(alloc, 3)?;
+    assert!(rt; make(alloc, &mut trie, flush(alloc, &[9])?)?);
+    assert_eq!(rt; trie.pile(ROOT), [7, 5, 9].as_slice());
+    assert_eq!(rt; trie.tables(), 3);
     assert_eq!(rt; trie.nodes().len(), 1);
-    assert_eq!(rt; trie.nodes()[0].node(), LAST);
-
-    let change = rewrite(alloc, LAST, &[], &[])?;
-    assert!(rt; made(alloc, &mut trie, change)?);
-    assert_eq!(rt; trie.tables(), 0);
     Ok(())
 }
 
 #[test]
-fn changes_that_do_not_fit(rt: HostRuntime) -> Result<(), Fail> {
+fn a_deal_to_an_inner_child(rt: HostRuntime) -> Result<(), Fail> {
+    let alloc = rt.alloc();
+    let mut trie = flushed(alloc, 3)?;
+    assert!(rt; make(alloc, &mut trie, deal(alloc, CHILD, &[11], 0, &[])?)?);
+    assert!(rt; make(alloc, &mut trie, deal(alloc, CHILD, &[12, 10], 0, &[])?)?);
+    assert_eq!(rt; trie.pile(CHILD), [11, 12, 10].as_slice());
+    for entry in trie.nodes() {
+        assert_eq!(rt; entry.node(), CHILD);
+    }
+    Ok(())
+}
+
+#[test]
+fn a_deal_to_the_last_level_keeps_full_groups(rt: HostRuntime) -> Result<(), Fail> {
+    let alloc = rt.alloc();
+    let mut trie = flushed(alloc, 2)?;
+    let tables = many(alloc, 64)?;
+    assert!(rt; make(alloc, &mut trie, deal(alloc, CHILD, &tables, 0, &[1])?)?);
+    assert!(rt; make(alloc, &mut trie, deal(alloc, CHILD, &[12], 1, &[2])?)?);
+    assert_eq!(rt; trie.groups(CHILD), [1, 2].as_slice());
+    assert_eq!(rt; trie.pile(CHILD).len(), 65);
+    Ok(())
+}
+
+#[test]
+fn rewritings_replace_a_pile(rt: HostRuntime) -> Result<(), Fail> {
+    let alloc = rt.alloc();
+    let mut trie = flushed(alloc, 2)?;
+    assert!(rt; make(alloc, &mut trie, deal(alloc, CHILD, &[11], 0, &[1])?)?);
+    assert!(rt; make(alloc, &mut trie, rewrite(alloc, CHILD, &[12, 13], &[2])?)?);
+    assert_eq!(rt;
+        trie.referenced(alloc)?.as_slice(),
+        [5, 12, 13, 2].as_slice()
+    );
+    assert_eq!(rt; trie.base(CHILD), 2);
+    assert!(rt; make(alloc, &mut trie, rewrite(alloc, CHILD, &[], &[])?)?);
+    assert_eq!(rt; trie.tables(), 1);
+    Ok(())
+}
+
+#[test]
+fn extents_that_are_not_new(rt: HostRuntime) -> Result<(), Fail> {
+    let alloc = rt.alloc();
+    let mut trie = flushed(alloc, 2)?;
+    for tables in [[9, 9].as_slice(), &[7], &[65536], &[]] {
+        assert!(rt; !make(alloc, &mut trie, flush(alloc, tables)?)?);
+    }
+    assert!(rt; make(alloc, &mut trie, flush(alloc, &[65535])?)?);
+    Ok(())
+}
+
+#[test]
+fn changes_of_another_shape(rt: HostRuntime) -> Result<(), Fail> {
+    let alloc = rt.alloc();
+    let mut trie = flushed(alloc, 2)?;
+    assert!(rt; !make(alloc, &mut trie, deal(alloc, ROOT, &[9], 0, &[])?)?);
+    assert!(rt; !make(alloc, &mut trie, deal(alloc, CHILD, &[9], 0, &[])?)?);
+    assert!(rt; !make(alloc, &mut trie, rewrite(alloc, CHILD, &[9], &[1])?)?);
+    Ok(())
+}
+
+#[test]
+fn a_node_that_is_set(rt: HostRuntime) -> Result<(), Fail> {
     let alloc = rt.alloc();
     let mut trie = Trie::new(alloc, 3)?;
-    let change = flush(alloc, &[1, 2])?;
-    assert!(rt; made(alloc, &mut trie, change)?);
-    let table = numbers(alloc, &[3])?;
-    let group = numbers(alloc, &[4])?;
-    trie.set_node(alloc, LAST, 1, table, group)?;
-    let other = NodeId {
-        level: 1,
-        number: 8,
-    };
-    let refused = [
-        flush(alloc, &[])?,
-        flush(alloc, &[5, 5])?,
-        flush(alloc, &[1])?,
-        flush(alloc, &[4])?,
-        flush(alloc, &[65536])?,
-        deal(alloc, ROOT, 0, INNER, &[5], 0, &[])?,
-        deal(alloc, ROOT, 3, INNER, &[5], 0, &[])?,
-        deal(alloc, ROOT, 1, other, &[5], 0, &[])?,
-        deal(alloc, ROOT, 1, INNER, &[], 0, &[])?,
-        deal(alloc, ROOT, 1, INNER, &[5], 0, &[6])?,
-        deal(alloc, LAST, 1, INNER, &[5], 0, &[])?,
-        rewrite(alloc, ROOT, &[5], &[6])?,
-        rewrite(alloc, LAST, &[5], &[])?,
-    ];
-    for change in refused {
-        assert!(rt; !trie.fits(&change));
-    }
-    assert_eq!(rt; trie.tables(), 3);
+    let table = Vec::from_slice(alloc, &[4])?;
+    let no_groups = Vec::new(alloc);
+    trie.set_node(alloc, CHILD, 0, Numbers::of(table), Numbers::of(no_groups))?;
+    assert_eq!(rt; trie.pile(CHILD), [4].as_slice());
     Ok(())
 }
 
 #[test]
 fn the_node_of_a_key(rt: HostRuntime) -> Result<(), Fail> {
-    // The SHA-1 of `a` begins with 86f7: the digits are 4, 1, 5, 7.
+    // The SHA-1 of `a` begins with 86f7: the digits are 4, 1, 5 and 7.
     let parts = parts_of(b"a");
     for (level, number) in [(0, 0), (1, 4), (2, 33), (3, 269), (4, 2159)] {
         assert_eq!(rt; path(&parts, level), NodeId { level, number });
