@@ -1,8 +1,8 @@
 -- The changes as values of the program, and the nodes that they set.
-use Rattle.std.specs.Prelude.{ℕ, List, [], ◌∷◌, ◌++◌, length, map}
-use Rattle.std.specs.List.{fold}
+use Rattle.std.specs.Prelude.{Bool, ◌||◌, [], ◌∷◌, ◌++◌, length, map}
+use Rattle.std.specs.List.{list_any}
 use Rattle.lt_format.specs.declared.node_id.NodeId.{NodeId}
-use Rattle.lt_format.specs.Trie.{Node, Trie, root, node_at, with_node}
+use Rattle.lt_format.specs.Trie.{Node, Trie, root, same_node, node_at, with_node}
 use Rattle.lt_format.specs.Changes as format
 use Rattle.lt_node.specs.declared.change.Change.{Change}
 use Rattle.lt_node.specs.declared.change.Change.TheVariants.{Flush, Deal, Rewrite}
@@ -31,3 +31,9 @@ abbrev pub changed : Trie → format.Change → Trie
 changed trie (format.flush tables) = (root, format.appended (node_at trie root) tables) ∷ []
 changed trie (format.deal node dropped children) = map (dealt_entry trie) children ++ (node, format.without_oldest (node_at trie node) dropped) ∷ []
 changed trie (format.rewrite node tables groups) = (node, record { base = length tables; tables = tables; groups = groups }) ∷ []
+
+-- whether the change sets the node
+abbrev pub sets : format.Change → NodeId → Bool
+sets (format.flush tables) id = same_node id root
+sets (format.deal node dropped children) id = same_node id node || list_any (λ (c : format.ChildChange). same_node id c.node) children
+sets (format.rewrite node tables groups) id = same_node id node
