@@ -49,24 +49,3 @@ waiting-unsettled bytes start settled le within few =
       ∙ take_all (settled - start) (take (settled - start) (drop start bytes)) (omega arith))
     (drop_all settled (take settled bytes) (omega arith))
     room
-
-pub waiting-more : (bytes text : List ℕ) (start settled : ℕ) → start ≤ settled → settled ≤ length bytes → waiting_at (bytes ++ text) start settled ≡ with_text (waiting_at bytes start settled) text
-waiting-more bytes text start settled le within =
-    let len = length-append bytes text in
-    let rest = length-drop start bytes in
-    let room : reply_room - (length (bytes ++ text) - start) ≡ reply_room - (length bytes - start) - length text = omega arith in
-    same _ _ _ _ _ _
-    (ap (λ xs. take (settled - start) xs) (drop-append-le start bytes text (omega arith))
-      ∙ take-append-le (settled - start) (drop start bytes) text (omega arith))
-    (drop-append-le settled bytes text within)
-    room
-
-pub waiting-moved : (bytes : List ℕ) (start settled : ℕ) → start ≤ settled → waiting_at (drop start bytes) 0 (settled - start) ≡ waiting_at bytes start settled
-waiting-moved bytes start settled le =
-    let zero : settled - start - 0 ≡ settled - start = omega arith in
-    let len = length-drop start bytes in
-    let room : reply_room - (length (drop start bytes) - 0) ≡ reply_room - (length bytes - start) = omega arith in
-    same _ _ _ _ _ _
-    (ap (λ n. take n (drop start bytes)) zero)
-    (pending-drop bytes start settled le)
-    room
