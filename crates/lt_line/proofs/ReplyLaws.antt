@@ -1,8 +1,8 @@
 -- What becomes of the text that waits when its bytes change.
-use Rattle.std.proofs.Common.{◌≡◌, ℕ, ◌+◌, ◌-◌, ◌≤◌, List, [], ◌++◌, length, take, drop, refl, sym, ap, ◌∙◌, arith, append_assoc, length-append, length-drop}
-use Rattle.std.proofs.lemmas.List.{take-append-le, drop-append-le, drop-drop, drop-take, drop_all, take_all, take_rest, take-append-drop, length-take-le}
+use Rattle.std.proofs.Common.{◌≡◌, ℕ, ◌+◌, ◌-◌, ◌≤◌, List, ◌++◌, length, take, drop, refl, sym, ap, ◌∙◌, arith, length-drop}
+use Rattle.std.proofs.lemmas.List.{drop-drop, drop-take, drop_all, take_all, take_rest, take-append-drop, length-take-le}
 use Rattle.std.proofs.Math.Seq.{drop-length}
-use Rattle.lt_line.specs.Waiting.{Waiting, waiting_at, with_text, all_settled, without_front, settled_alone, reply_room}
+use Rattle.lt_line.specs.Waiting.{Waiting, waiting_at, all_settled, without_front, settled_alone, reply_room}
 
 abbrev of : List ℕ → List ℕ → ℕ → Waiting
 of settled pending room = record { settled_text = settled; pending_text = pending; room = room }
@@ -19,8 +19,8 @@ pending-drop bytes start settled le =
 pub waiting-settled : (bytes : List ℕ) (start settled : ℕ) → start ≤ settled → settled ≤ length bytes → waiting_at bytes start (length bytes) ≡ all_settled (waiting_at bytes start settled)
 waiting-settled bytes start settled le within = same _ _ _ _ _ _
     (take_rest bytes start
-      ∙ sym (take-append-drop (settled - start) (drop start bytes))
-      ∙ ap (λ rest. take (settled - start) (drop start bytes) ++ rest) (pending-drop bytes start settled le))
+    ∙ sym (take-append-drop (settled - start) (drop start bytes))
+    ∙ ap (λ rest. take (settled - start) (drop start bytes) ++ rest) (pending-drop bytes start settled le))
     (drop-length bytes)
     refl
 
@@ -30,8 +30,8 @@ waiting-front bytes start settled n le within few =
     let room : reply_room - (length bytes - (start + n)) ≡ reply_room - (length bytes - start) + n = omega arith in
     same _ _ _ _ _ _
     (ap (λ xs. take (settled - (start + n)) xs) (sym (drop-drop n start bytes))
-      ∙ sym (drop-take n (settled - (start + n)) (drop start bytes))
-      ∙ ap (λ m. drop n (take m (drop start bytes))) sum)
+    ∙ sym (drop-take n (settled - (start + n)) (drop start bytes))
+    ∙ ap (λ m. drop n (take m (drop start bytes))) sum)
     refl
     room
 
@@ -45,7 +45,7 @@ waiting-unsettled bytes start settled le within few =
     let room : reply_room - (length (take settled bytes) - start) ≡ reply_room - (length bytes - start) + length (drop settled bytes) = omega arith in
     same _ _ _ _ _ _
     (ap (λ m. take (settled - start) (drop start (take m bytes))) (sym sum)
-      ∙ ap (λ xs. take (settled - start) xs) (drop-take start (settled - start) bytes)
-      ∙ take_all (settled - start) (take (settled - start) (drop start bytes)) (omega arith))
+    ∙ ap (λ xs. take (settled - start) xs) (drop-take start (settled - start) bytes)
+    ∙ take_all (settled - start) (take (settled - start) (drop start bytes)) (omega arith))
     (drop_all settled (take settled bytes) (omega arith))
     room

@@ -1,4 +1,4 @@
-use Rattle.std.proofs.Common.{◌≡◌, ◌∙◌, ap}
+use Rattle.std.proofs.Common.{◌∙◌, ap}
 use Rattle.lt_line.specs.Waiting.{waiting_at, settled_alone}
 use Rattle.lt_line.proofs.ReplyLaws.{waiting-unsettled}
 use Rattle.lt_line.proofs.replies.Replies.drop_unsettled.Goals as goal

@@ -1,4 +1,4 @@
-use Rattle.std.proofs.Common.{◌≡◌, ◌∙◌, sym, ap, length}
+use Rattle.std.proofs.Common.{◌≡◌, ◌∙◌, ap, length}
 use Rattle.lt_line.specs.Waiting.{waiting_at, all_settled}
 use Rattle.lt_line.proofs.ReplyLaws.{waiting-settled}
 use Rattle.lt_line.proofs.replies.Replies.settle.Goals as goal
