@@ -1,8 +1,10 @@
 pub mod ChildLaws
 pub mod KeepLaws
+pub mod LocalLaws
 pub mod NamedLaws
 pub mod NodeReadLaws
 pub mod Numbers
+pub mod ReadLaws
 pub mod RegionLaws
 pub mod ShapeLaws
 pub mod SnapshotReadLaws

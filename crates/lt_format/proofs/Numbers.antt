@@ -19,7 +19,7 @@ times-append x (y ∷ xs) ys = omega (arith, times-append x xs ys)
 pub times-parts : (x n : ℕ) (xs : List ℕ) → times x (take n xs) + times x (drop n xs) ≡ times x xs
 times-parts x n xs = sym (times-append x (take n xs) (drop n xs)) ∙ ap (times x) (take-append-drop n xs)
 
-times-absent : (x : ℕ) (xs : List ℕ) → is_in x xs ≡ false → times x xs ≡ 0
+pub times-absent : (x : ℕ) (xs : List ℕ) → is_in x xs ≡ false → times x xs ≡ 0
 times-absent x [] h = refl
 times-absent x (y ∷ ys) h = by_head (y == x) (times-absent x ys) h
   where

@@ -59,4 +59,3 @@ may_commit levels m change header =
 -- the manifest after a commit
 abbrev pub after_commit : Manifest → Change → Header → Manifest
 after_commit m change header = record { header = header; trie = after_change m.trie change }
-

@@ -50,6 +50,15 @@ module _ (g : Geometry) (b writes : ℕ) (image left : Image) (same : SameSlots 
       rw (gate, content, behind) (ap (λ r. cond (is_open (block_at image (log_gate g b i))) r (closed_from (first_open image (log_gate g b) (i + 1) n) groups))
       (read_with-same (with_group writes groups (group_on (block_at image (log_content g b i)))) (log_content g b i) _ _ (λ more. log_from-same (i + 1) n more (omega arith))))
 
+-- a log is told by the blocks of its area
+pub has_log-local : (g : Geometry) (b writes : ℕ) (groups : List (List Item)) (image left : Image) → ((n : ℕ) → InLogArea g b n → block_at left n ≡ block_at image n) → HasLog g b writes groups image → HasLog g b writes groups left
+has_log-local g b writes groups image left same has =
+    let slots : SameSlots g b image left = record {
+      gates = λ k small. same (log_gate g b k) (omega arith, omega arith);
+      contents = λ k small. same (log_content g b k) (omega arith, omega arith);
+    } in
+    record { read = log_from-same g b writes image left slots 0 g.slots _ (omega arith) ∙ has.read }
+
 -- a log stays what it is while the other area alone changes
 pub has_log-other : (g : Geometry) (b writes : ℕ) (groups : List (List Item)) (image left : Image) → b < 2 → SameOutside (InLogArea g (other_area b)) image left → HasLog g b writes groups image → HasLog g b writes groups left
 has_log-other g b writes groups image left area same has = record { read = log_from-same g b writes image left (same_slots g b image left area same) 0 g.slots _ (omega arith) ∙ has.read }

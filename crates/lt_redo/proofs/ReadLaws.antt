@@ -53,3 +53,19 @@ unfolding items_of
 items_of-reads zero [] items read = let none : [] ≡ items = cc in subst (AreRead []) none (record { cost = refl; valid = refl })
 items_of-reads zero (b ∷ bytes) items read = absurd (none-some items read)
 items_of-reads (suc n) bytes items read = reads_first n bytes items (front_item bytes) refl (items_of-reads n) read
+
+-- as many items as were asked for are read
+count_of_rest : (n : ℕ) (first : Item) (items : List Item) (o : Option (List Item)) → ((others : List Item) → o ≡ Some others → length others ≡ n) → option_map (λ others. first ∷ others) o ≡ Some items → length items ≡ suc n
+count_of_rest n first items None others h = absurd (none-some items h)
+count_of_rest n first items (Some more) others h = let is : first ∷ more ≡ items = cc in ap length (sym is) ∙ ap suc (others more refl)
+
+count_of_first : (n : ℕ) (items : List Item) (o : Option (Item × List ℕ)) → ((bytes : List ℕ) (others : List Item) → items_of n bytes ≡ Some others → length others ≡ n)
+    → option_and_then (λ (first : Item × List ℕ). option_map (λ others. first.0 ∷ others) (items_of n first.1)) o ≡ Some items → length items ≡ suc n
+count_of_first n items None others h = absurd (none-some items h)
+count_of_first n items (Some found) others h = count_of_rest n found.0 items (items_of n found.1) (others found.1) h
+
+pub items_of-count : (n : ℕ) (bytes : List ℕ) (items : List Item) → items_of n bytes ≡ Some items → length items ≡ n
+unfolding items_of
+items_of-count zero [] items read = let none : [] ≡ items = cc in ap length (sym none)
+items_of-count zero (b ∷ bytes) items read = absurd (none-some items read)
+items_of-count (suc n) bytes items read = count_of_first n items (front_item bytes) (items_of-count n) read

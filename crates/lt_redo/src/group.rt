@@ -1,6 +1,6 @@
 //! A group of items on the page that is its content.
 
-ghost use Rattle.std.specs.Prelude.{◌≡◌, ℕ, ◌+◌, ◌≤◌, ◌∷◌, ◌++◌, [], length, List, IfSome, IsTrue};
+ghost use Rattle.std.specs.Prelude.{◌≡◌, ℕ, ◌+◌, ◌<◌, ◌≤◌, ◌∷◌, ◌++◌, [], length, List, IfSome, IsTrue};
 ghost use Rattle.std.specs.List.{list_all};
 ghost use Rattle.std.specs.Option.{option_map};
 ghost use Rattle.lt_terms.specs.Bytes.{all_zero};
@@ -41,6 +41,7 @@ pub fn finish(page: &mut Page, count: u16, used: u16)
 pub fn group_on(page: &Page) -> Option<(Items<'_>, u16)>
     ensures spelled { option_map (λ group. group.0) result ≡ group_on page.now }
     ensures valid { IfSome result (λ group. IsTrue (list_all is_valid group.0)) }
+    ensures some { IfSome result (λ group. 0 < length group.0) }
     ensures cost { IfSome result (λ group. group.1 ≡ total_cost group.0) }
 {
     let count = page.number_u16(0);

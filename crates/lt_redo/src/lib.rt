@@ -3,6 +3,7 @@
 
 mod clear;
 mod group;
+mod laws;
 mod log;
 mod opening;
 mod replay;
@@ -10,5 +11,6 @@ mod slot;
 #[cfg(test)]
 mod tests;
 
+pub use laws::logs_are_local;
 pub use log::{GroupFull, Log};
 pub use lt_layout::{Geometry, OpenFault};

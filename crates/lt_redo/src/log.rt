@@ -97,6 +97,8 @@ impl Log {
         // Whatever the device tells.
         ensures items { IfOk result (λ opened. IsTrue (list_all is_valid opened.1.items)) }
         ensures fits { IfOk result (λ opened. IsTrue (log_fits writes opened.1.items)) }
+        ensures enough { IfOk result (λ opened. opened.0.slots ≤ length opened.1.items) }
+        ensures within { IfOk result (λ opened. opened.0.slots ≤ geometry.now.slots) }
 
         ensures damaged { (b : ℕ) → IsErrOf result (OpenFault.Damaged b) → ForSome (D.state device.old).shown (λ image. log_groups geometry.now image area writes ≡ Err b) }
         ensures damaged_block { (b : ℕ) → IsErrOf result (OpenFault.Damaged b) → InLogArea geometry.now area b }

@@ -1,6 +1,6 @@
 //! Reading a log area slot by slot.
 
-ghost use Rattle.std.specs.Prelude.{◌≡◌, ℕ, ◌-◌, ◌*◌, ◌<◌, ◌≤◌, Some, None, Err, IfOk, OnOk, IsErrOf, IsTrue};
+ghost use Rattle.std.specs.Prelude.{◌≡◌, ℕ, ◌-◌, ◌*◌, ◌<◌, ◌≤◌, Some, None, Err, IfOk, OnOk, IsErrOf, IsTrue, length};
 ghost use Rattle.std.specs.Option.{ForSome};
 ghost use Rattle.lt_terms.specs.Bytes.{Image, block_at};
 ghost use Rattle.lt_terms.specs.Causes.{CountsOne, HasCause, Rose};
@@ -30,6 +30,7 @@ pub fn replay<D: Device>(
     requires within { log_gate geometry.now area geometry.now.slots ≤ D.blocks device.old }
     ensures slots { IfOk result (λ read. read.0 ≤ geometry.now.slots) }
     ensures writes { IfOk result (λ read. read.1.writes ≡ writes) }
+    ensures enough { IfOk result (λ read. read.0 ≤ length read.1.items.items) }
     ensures items { IfOk result (λ read. ForSome (D.state device.old).shown (HasItems geometry.now area writes read.0 read.1.items.items)) }
     ensures damaged { (b : ℕ) → IsErrOf result (OpenFault.Damaged b) → ForSome (D.state device.old).shown (λ image. log_groups geometry.now image area writes ≡ Err b) }
     ensures damaged_block { (b : ℕ) → IsErrOf result (OpenFault.Damaged b) → InLogArea geometry.now area b }
@@ -81,6 +82,7 @@ fn read_content<D: Device>(
 ) -> Result<Replay, OpenFault>
     requires within { log_content geometry.now area slot < D.blocks device.old }
     ensures writes { IfOk result (λ more. more.writes ≡ read.writes) }
+    ensures more { IfOk result (λ more. length read.items.items < length more.items.items) }
     ensures items { IfOk result (λ more. ForSome (D.state device.old).shown (λ image.
         items_with read.writes read.items.items (group_on (block_at image (log_content geometry.now area slot))) ≡ Some more.items.items)) }
     ensures damaged { (b : ℕ) → IsErrOf result (OpenFault.Damaged b) → ForSome (D.state device.old).shown (λ image.

@@ -8,3 +8,6 @@ pub mod FitLaws
 pub mod TableLaws
 pub mod PlanLaws
 pub mod LookLaws
+pub mod ValidLaws
+pub mod VersionLaws
+pub mod CoverLaws

@@ -5,3 +5,4 @@ pub mod Cut
 pub mod Merge
 pub mod Alike
 pub mod Table
+pub mod Group

@@ -45,6 +45,7 @@ loop-slot-preserved g c =
     let read = c.read_content.ensures in
     record {
       writes = c.in_ok-read.ensures.writes ∙ so_far.writes;
+      enough = omega (arith, so_far.enough, c.in_ok-read.ensures.more);
       replayed = λ image told.
           let here = ap (λ (s : State). s.shown) so_far.state ∙ told in
           let opened = c.in_ok-read_gate.ensures.opened image here ∙ c.if-not-branch.false in

@@ -1,4 +1,4 @@
-use Rattle.std.proofs.Common.{◌≡◌, ◌*◌, ◌≤◌}
+use Rattle.std.proofs.Common.{◌≡◌, ◌*◌, ◌≤◌, length}
 use Rattle.std.specs.Option.{ForSome}
 use Rattle.lt_device.specs.Reads.{CountsAtMost}
 use Rattle.lt_redo.proofs.OpeningLaws.{IsReplayed}
@@ -8,6 +8,7 @@ use Rattle.lt_redo.proofs.opening.replay.Given as goal
 abbrev pub invariant-loop-slot : goal.invariant-loop-slot
 invariant-loop-slot g l = record {
   writes : l.read.writes ≡ l.writes;
+  enough : l.slot ≤ length l.read.items.items;
   replayed : ForSome (g.D.Device.state l.fn.device).shown (IsReplayed l.geometry l.area l.writes l.slot l.read.items.items);
   state : g.D.Device.state l.device ≡ g.D.Device.state l.fn.device;
   size : g.D.Device.blocks l.device ≡ g.D.Device.blocks l.fn.device;

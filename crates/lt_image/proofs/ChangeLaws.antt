@@ -1,0 +1,74 @@
+-- The piles of the trie after a change, and what stays true of its nodes.
+use Rattle.std.proofs.Common.{◌≡◌, ℕ, zero, suc, ◌+◌, ◌*◌, ◌/◌, ◌<◌, ◌≤◌, refl, sym, ap, subst, ◌∙◌, List, [], ◌∷◌, ◌++◌, length, drop, Bool, true, false, not, cond, ◌&&◌, Option, Some, None, arith, append-nil, append_assoc, true≢false, eqb-true, leb-true, ltb-true}
+use Rattle.std.specs.Prelude.{T, ◌==◌, IsTrue, nat_le, nat_lt}
+use Rattle.std.specs.declared.cmp.Ordering.{Ordering}
+use Rattle.std.specs.declared.cmp.Ordering.TheVariants.{Less, Equal, Greater}
+use Rattle.std.specs.Ordering.{eq_by_cmp, is_eq, nat_cmp, ordering_then}
+use Rattle.std.specs.FinMap.{find, put, is_sorted, nat_cmp-IsAntisymmetric}
+use Rattle.std.specs.FinMap.Entries.{where_key, by_order}
+use Rattle.std.specs.List.{filter, flat_map, fold, AllByRecursion}
+use Rattle.std.proofs.lemmas.Bool.{and_parts}
+use Rattle.lt_terms.specs.Hashes.{key_digit}
+use Rattle.lt_format.specs.declared.node_id.NodeId.{NodeId}
+use Rattle.lt_format.specs.Trie.{Node, Trie, root, child, path, path_number, node_cmp, same_node, node_at, with_node, empty_node}
+use Rattle.lt_format.specs.Changes.{Change, flush, deal, rewrite, ChildChange, appended, child_after, after_child, without_oldest, after_change, children_fit, groups_fit}
+use Rattle.lt_format.specs.Trie.{is_last_level}
+use Rattle.lt_format.proofs.TrieLaws.{node_exact, if_any, node_at-with_node}
+
+-- ---- a fact of all nodes
+
+put_all : (P : NodeId × Node → Type 0) (id : NodeId) (node : Node) (es : Trie) → P (id, node) → AllByRecursion P es → AllByRecursion P (put node_cmp id node es)
+put_all P id node [] p all = (p, tt)
+put_all P id node (e ∷ es) p all =
+    elim (node_cmp id e.0) as (λ r. node_cmp id e.0 ≡ r → AllByRecursion P (by_order r ((id, node) ∷ e ∷ es) ((e.0, node) ∷ es) (e ∷ put node_cmp id node es))) [
+      | Less ↦ λ t. (p, all)
+      | Equal ↦ λ t. (subst (λ q. P (q, node)) (node_exact id e.0 t) p, all.1)
+      | Greater ↦ λ t. (all.0, put_all P id node es p all.1)
+    ] refl
+
+filter_all : (P : NodeId × Node → Type 0) (test : NodeId × Node → Bool) (es : Trie) → AllByRecursion P es → AllByRecursion P (filter test es)
+filter_all P test [] all = tt
+filter_all P test (e ∷ es) all = elim (test e) as (λ b. AllByRecursion P (cond b (e ∷ filter test es) (filter test es))) [ true ↦ (all.0, filter_all P test es all.1) | false ↦ filter_all P test es all.1 ]
+
+with_all : (P : NodeId × Node → Type 0) (id : NodeId) (node : Node) (es : Trie) (none : Bool) → P (id, node) → AllByRecursion P es → AllByRecursion P (cond none (where_key node_cmp (λ x. not (same_node id x)) es) (put node_cmp id node es))
+with_all P id node es true p all = filter_all P (λ e. not (same_node id e.0)) es all
+with_all P id node es false p all = put_all P id node es p all
+
+-- what holds of all nodes and of a new one holds of all nodes after it is put
+pub with_node-all : (P : NodeId × Node → Type 0) (trie : Trie) (id : NodeId) (node : Node) → P (id, node) → AllByRecursion P trie → AllByRecursion P (with_node trie id node)
+unfolding with_node
+with_node-all P trie id node p all = with_all P id node trie (length node.tables == 0) p all
+
+-- ---- the piles after a change
+
+no_tables : (xs : List ℕ) → (length xs == 0) ≡ true → xs ≡ []
+no_tables [] e = refl
+no_tables (x ∷ xs) e = let h : length (x ∷ xs) ≡ 0 = eqb-true (length (x ∷ xs)) 0 e in absurd (omega arith)
+
+if_any_by : (node : Node) (none : Bool) → (length node.tables == 0) ≡ none → (cond none empty_node node).tables ≡ node.tables
+if_any_by node true e = sym (no_tables node.tables e)
+if_any_by node false e = refl
+
+pub if_any-tables : (node : Node) → (if_any node).tables ≡ node.tables
+if_any-tables node = if_any_by node (length node.tables == 0) refl
+
+cond_tables : (b : Bool) (m n : Node) → (cond b m n).tables ≡ cond b m.tables n.tables
+cond_tables true m n = refl
+cond_tables false m n = refl
+
+-- the tables of each node after one was changed
+pub tables-with_node : (trie : Trie) (id : NodeId) (node : Node) (q : NodeId) → (node_at (with_node trie id node) q).tables ≡ cond (same_node q id) node.tables (node_at trie q).tables
+tables-with_node trie id node q =
+    ap (λ (n : Node). n.tables) (node_at-with_node trie id node q)
+    ∙ cond_tables (same_node q id) (if_any node) (node_at trie q)
+    ∙ ap (λ (xs : List ℕ). cond (same_node q id) xs (node_at trie q).tables) (if_any-tables node)
+
+pub tables-flush : (trie : Trie) (tables : List ℕ) (q : NodeId) → (node_at (after_change trie (flush tables)) q).tables ≡ cond (same_node q root) ((node_at trie root).tables ++ tables) (node_at trie q).tables
+unfolding after_change
+tables-flush trie tables q = tables-with_node trie root (appended (node_at trie root) tables) q
+
+-- ---- paths
+
+pub path-root : (key : List ℕ) → path key 0 ≡ root
+unfolding path_number
+path-root key = refl

@@ -1,0 +1,13 @@
+pub mod Words
+pub mod ChangeLaws
+pub mod PathLaws
+pub mod SoundLaws
+pub mod SpellsLaws
+pub mod TableSoundLaws
+pub mod KeepLaws
+pub mod MapLaws
+pub mod AfterLaws
+pub mod WholeLaws
+pub mod OpenLaws
+pub mod StandLaws
+pub mod PlacedLaws
