@@ -1,3 +1,6 @@
 pub mod CutLaws
 pub mod NumberLaws
 pub mod BuildLaws
+pub mod OpenLaws
+pub mod FilterLaws
+pub mod MemoryLaws

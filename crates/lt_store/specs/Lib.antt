@@ -3,3 +3,4 @@ pub mod Going
 pub mod Kept
 pub mod Open
 pub mod View
+pub mod Reading

@@ -4,6 +4,7 @@
 mod building;
 mod cutting;
 mod faults;
+mod opening;
 mod store;
 
 pub use faults::{InitFault, WriteFault};
