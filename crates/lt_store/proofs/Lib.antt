@@ -2,13 +2,16 @@ pub mod AnswerLaws
 pub mod BuildLaws
 pub mod CommitLaws
 pub mod CutLaws
+pub mod FilterLaws
 pub mod FlushLaws
 pub mod GetLaws
 pub mod GoLaws
 pub mod GroupLaws
 pub mod LookLaws
+pub mod MemoryLaws
 pub mod MomentLaws
 pub mod NumberLaws
+pub mod OpenLaws
 pub mod PileLaws
 pub mod PrepareLaws
 pub mod SameLaws

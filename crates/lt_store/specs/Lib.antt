@@ -7,3 +7,4 @@ pub mod Going
 pub mod Kept
 pub mod Open
 pub mod View
+pub mod Reading

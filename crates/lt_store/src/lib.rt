@@ -7,6 +7,7 @@ mod cutting;
 mod faults;
 mod flushing;
 mod getting;
+mod opening;
 mod store;
 
 pub use faults::{InitFault, WriteFault};

@@ -1,0 +1,66 @@
+use Rattle.std.proofs.Common.{◌≡◌, ◌+◌, ◌*◌, ◌≤◌, ◌∙◌, refl, sym, ap, subst, arith}
+use Rattle.std.proofs.lemmas.Result.{err_from_is_err_and}
+use Rattle.lt_device.specs.State as told
+use Rattle.lt_redo.proofs.OpeningLaws.{handed_on}
+use Rattle.lt_store.specs.Open.{IsOpen, root_pile}
+use Rattle.lt_store.specs.View.{view_of}
+use Rattle.lt_store.proofs.OpenLaws.{no_manifest, log-damaged, rest-whole, rest-open, low-below, assembled-reads, counts-more, few-slots, few-reads, assembled-room}
+use Rattle.lt_store.proofs.store.Store.open.Goals as goal
+
+pub returns-in_err-geometry-clause-damaged : goal.returns-in_err-geometry-clause-damaged
+returns-in_err-geometry-clause-damaged g c = λ b is image shown.
+    let fault = err_from_is_err_and c.from_residual.result c.from_residual.ensures.1 in
+    no_manifest image b (c.read_manifest.ensures.damaged b (handed_on _ _ _ _ _ c.in_err-geometry.was fault.1 fault.2 is) image shown)
+
+pub returns-in_err-geometry-clause-damaged_block : goal.returns-in_err-geometry-clause-damaged_block
+returns-in_err-geometry-clause-damaged_block g c = λ b is.
+    let fault = err_from_is_err_and c.from_residual.result c.from_residual.ensures.1 in
+    low-below b (c.read_manifest.ensures.damaged_block b (handed_on _ _ _ _ _ c.in_err-geometry.was fault.1 fault.2 is))
+
+pub returns-in_err-log-clause-damaged : goal.returns-in_err-log-clause-damaged
+returns-in_err-log-clause-damaged g c = λ b is image shown.
+    let fault = err_from_is_err_and c.from_residual-in_err-log.result c.from_residual-in_err-log.ensures.1 in
+    let here = ap (λ (s : told.State). s.shown) c.read_manifest.ensures.state ∙ shown in
+    log-damaged image c.in_ok-geometry.geometry c.in_ok-geometry.manifest b c.in_ok-geometry.ensures.geometry (c.in_ok-geometry.ensures.read image shown)
+    (c.read_log.ensures.damaged b (handed_on _ _ _ _ _ c.in_err-log.was fault.1 fault.2 is) image here)
+
+pub returns-in_err-log-clause-at_rest : goal.returns-in_err-log-clause-at_rest
+returns-in_err-log-clause-at_rest g c = λ s rest b is. rest-whole s (g.D.Device.state c.args.device.now) b rest (returns-in_err-log-clause-damaged g c b is)
+
+pub returns-in_err-filters-clause-count_at_most : goal.returns-in_err-filters-clause-count_at_most
+returns-in_err-filters-clause-count_at_most g c =
+    counts-more (435 + 2 * 512 + 65536)
+    (counts-more (435 + 2 * c.in_ok-geometry.geometry.slots) c.read_manifest.ensures.count c.read_log.ensures.count (omega arith))
+    c.root_filters.ensures.count
+    (few-reads c.in_ok-geometry.geometry _ c.in_ok-geometry.manifest.manifest c.in_ok-geometry.ensures.valid c.in_ok-geometry.ensures.stands)
+
+pub returns-in_err-of-clause-count_at_most : goal.returns-in_err-of-clause-count_at_most
+returns-in_err-of-clause-count_at_most g c =
+    counts-more (435 + 2 * 512 + 65536)
+    (counts-more (435 + 2 * c.in_ok-geometry.geometry.slots) c.read_manifest.ensures.count c.read_log.ensures.count (omega arith))
+    c.root_filters.ensures.count
+    (few-reads c.in_ok-geometry.geometry _ c.in_ok-geometry.manifest.manifest c.in_ok-geometry.ensures.valid c.in_ok-geometry.ensures.stands)
+
+pub returns-clause-count_at_most : goal.returns-clause-count_at_most
+returns-clause-count_at_most g c =
+    counts-more (435 + 2 * 512 + 65536)
+    (counts-more (435 + 2 * c.in_ok-geometry.geometry.slots) c.read_manifest.ensures.count c.read_log.ensures.count (omega arith))
+    c.root_filters.ensures.count
+    (few-reads c.in_ok-geometry.geometry _ c.in_ok-geometry.manifest.manifest c.in_ok-geometry.ensures.valid c.in_ok-geometry.ensures.stands)
+
+pub returns-clause-room : goal.returns-clause-room
+returns-clause-room g c =
+    let room = assembled-room c.in_ok-geometry.geometry _ c.in_ok-geometry.manifest _ _ _ _ c.in_ok-geometry.ensures.geometry c.in_ok-geometry.ensures.stands c.in_ok-of.ensures in
+    omega (arith, room, c.root_filters.ensures.size, c.read_log.ensures.size, c.read_manifest.ensures.size)
+
+pub returns-clause-reads : goal.returns-clause-reads
+returns-clause-reads g c = λ image shown.
+    let after_manifest = ap (λ (s : told.State). s.shown) c.read_manifest.ensures.state ∙ shown in
+    let after_log = ap (λ (s : told.State). s.shown) c.read_log.ensures.state ∙ after_manifest in
+    assembled-reads image c.in_ok-geometry.geometry c.in_ok-geometry.manifest c.in_ok-log.log c.in_ok-log.items.items c.deref.result.now c.in_ok-filters.filters.items _
+    c.in_ok-geometry.ensures.geometry (c.in_ok-geometry.ensures.read image shown) c.in_ok-log.ensures.log (c.in_ok-log.ensures.read image after_manifest) c.deref.ensures.value (c.in_ok-filters.ensures.filters image after_log) c.in_ok-of.ensures
+
+pub returns-clause-opened : goal.returns-clause-opened
+returns-clause-opened g c = λ s rest only.
+    let same = c.root_filters.ensures.state ∙ c.read_log.ensures.state ∙ c.read_manifest.ensures.state in
+    subst (λ d. IsOpen (view_of c.in_ok-of.field-0) s d) (sym same) (rest-open (view_of c.in_ok-of.field-0) s (g.D.Device.state c.args.device.now) rest only (returns-clause-reads g c))

@@ -1,0 +1,257 @@
+//! Opening a store: its manifest, its log and the filters of the root's tables are read.
+
+ghost use Rattle.std.specs.Prelude.{◌≡◌, ℕ, ◌+◌, ◌*◌, ◌<◌, ◌≤◌, Ok, Err, None, [], ◌∷◌, ◌++◌, true, length, vec_len, IfOk, IsErrOf, IsTrue, replicate};
+ghost use Rattle.std.specs.List.{list_all};
+ghost use Rattle.std.specs.Option.{ForSome};
+ghost use Rattle.lt_terms.specs.Bytes.{block_at};
+ghost use Rattle.lt_terms.specs.Causes.{CountsOne, Rose};
+ghost use Rattle.lt_terms.specs.Items.{is_valid, item_cost, total_cost};
+ghost use Rattle.lt_item.specs.Views.{item_of};
+ghost use Rattle.lt_mem.specs.Index.{table_room};
+ghost use Rattle.lt_alloc.specs.Extents.{AreTaken};
+ghost use Rattle.lt_device.specs.Reads.{CountsAtMost};
+ghost use Rattle.lt_language.specs.Machine.{State};
+ghost use Rattle.lt_format.specs.Layout.{is_geometry, extent_block, blocks_needed};
+ghost use Rattle.lt_format.specs.Log.{log_fits, log_groups};
+ghost use Rattle.lt_format.specs.Naming.{manifest_of};
+ghost use Rattle.lt_format.specs.Snapshot.{IsManifest};
+ghost use Rattle.lt_format.specs.Trie.{named};
+ghost use Rattle.lt_redo.specs.Opening.{HasItems};
+ghost use Rattle.lt_image.specs.Opening.{open_image};
+ghost use Rattle.lt_store.specs.Open.{AtRest, IsRootOnly, IsOpen, root_pile, blocks_of};
+ghost use Rattle.lt_store.specs.Reading.{Reads, KeepsFilters, IsBelowExtents, Assembles, log_at};
+ghost use Rattle.lt_store.specs.View.{view_of};
+
+use super::store::Store;
+use lt_alloc::Extents;
+use lt_bloom::FilterPage;
+use lt_bucket::Item;
+use lt_device::Device;
+use lt_format::{Geometry, NodeId};
+use lt_htable::{BuildFault, read_filters};
+use lt_item::{ItemView, Kind};
+use lt_manifest::{Manifest, OpenFault, read_geometry};
+use lt_mem::MemTable;
+use lt_page::{NoMemory, Page};
+use lt_redo::Log;
+use std::alloc::Global;
+
+/// The node whose tables a store has.
+const ROOT: NodeId = NodeId {
+    level: 0,
+    number: 0,
+};
+
+impl Store {
+    /// Opens the store of a device. It writes nothing.
+    ///
+    /// `Damaged` is the first block that does not stand, of the superblock, the manifest and the log.
+    /// It reads the superblock, the snapshot and the edits of the manifest, the gates and the groups of
+    /// the log, and the filter block of each table of the root.
+    pub fn open<D: Device>(alloc: Global, device: &mut D) -> Result<Store, OpenFault>
+        ensures up { IfOk result (λ store. store.is_up ≡ true) }
+        ensures pending { IfOk result (λ store. (view_of store).log.pending ≡ []) }
+        ensures room { IfOk result (λ store. blocks_of (view_of store) ≤ D.blocks device.new) }
+
+        // On a device that tells its blocks the store is what they open as.
+        ensures reads { IfOk result (λ store. ForSome (D.state device.old).shown (Reads (view_of store))) }
+
+        // On a device at rest it is open for what the device stands for.
+        ensures opened { IfOk result (λ store. (s : State) → (r : AtRest s (D.state device.old)) → IsRootOnly r.named.manifest.trie → IsOpen (view_of store) s (D.state device.new)) }
+
+        ensures damaged { (b : ℕ) → IsErrOf result (OpenFault.Damaged b) → ForSome (D.state device.old).shown (λ image. open_image image ≡ Err b) }
+        ensures at_rest { (s : State) → AtRest s (D.state device.old) → (b : ℕ) → IsErrOf result (OpenFault.Damaged b) → ⊥ }
+        ensures damaged_block { (b : ℕ) → IsErrOf result (OpenFault.Damaged b) → IsBelowExtents b }
+        ensures cause { IsErrOf result OpenFault.Device → Rose (D.faults device.old) (D.faults device.new) }
+        ensures later { D.faults device.old ≤ D.faults device.new }
+        ensures state { D.state device.new ≡ D.state device.old }
+        ensures size { D.blocks device.new ≡ D.blocks device.old }
+        ensures count { IfOk result (λ store. CountsAtMost (435 + 2 * (view_of store).named.geometry.slots + length (root_pile (view_of store).named.manifest.trie)) (D.reads device.old) (D.reads device.new)) }
+        // The most slots and the most extents that there may be.
+        ensures count_at_most { CountsAtMost (435 + 2 * 512 + 65536) (D.reads device.old) (D.reads device.new) }
+    {
+        let (geometry, manifest) = read_manifest(alloc, device)?;
+        let (log, items) = read_log(alloc, device, &geometry, &manifest)?;
+        let filters = root_filters(alloc, device, &geometry, &manifest)?;
+        Ok(Store::of(alloc, geometry, manifest, log, &items, filters)?)
+    }
+
+    /// A store of what was read. Its filters have a place for each extent.
+    fn of(
+        alloc: Global,
+        geometry: Geometry,
+        manifest: Manifest,
+        log: Log,
+        items: &[Item],
+        filters: Vec<Option<FilterPage>>,
+    ) -> Result<Store, NoMemory>
+        requires geometry { manifest.geometry ≡ geometry }
+        requires log { log ≡ log_at manifest log.slots }
+        requires slots { log.slots ≤ geometry.slots }
+        requires enough { log.slots ≤ length items.now }
+        requires valid { IsTrue (list_all is_valid items.now) }
+        requires fits { IsTrue (log_fits manifest.manifest.header.writes items.now) }
+        requires filters { vec_len filters ≡ manifest.manifest.header.extents }
+        ensures { IfOk result (λ store. Assembles manifest log items.now filters.items (view_of store)) }
+    {
+        let extents = taken_extents(alloc, &manifest)?;
+        let memory = memory_of(alloc, items)?;
+        let page = Page::new(alloc)?;
+        let writes = manifest.header().writes + items.len() as u64;
+        Ok(Store {
+            geometry,
+            log,
+            manifest,
+            memory,
+            extents,
+            filters,
+            page,
+            writes,
+            is_up: true,
+        })
+    }
+}
+
+/// Reads the geometry and the manifest.
+fn read_manifest<D: Device>(
+    alloc: Global,
+    device: &mut D,
+) -> Result<(Geometry, Manifest), OpenFault>
+    ensures geometry { IfOk result (λ read. read.1.geometry ≡ read.0) }
+    ensures valid { IfOk result (λ read. IsTrue (is_geometry read.0)) }
+    ensures stands { IfOk result (λ read. IsManifest read.0 (D.blocks device.old) read.1.manifest) }
+    ensures read { IfOk result (λ read. ForSome (D.state device.old).shown (λ image. manifest_of image ≡ Ok read.1)) }
+    ensures damaged { (b : ℕ) → IsErrOf result (OpenFault.Damaged b) → ForSome (D.state device.old).shown (λ image. manifest_of image ≡ Err b) }
+    ensures damaged_block { (b : ℕ) → IsErrOf result (OpenFault.Damaged b) → b < 868 }
+    ensures cause { IsErrOf result OpenFault.Device → Rose (D.faults device.old) (D.faults device.new) }
+    ensures later { D.faults device.old ≤ D.faults device.new }
+    ensures state { D.state device.new ≡ D.state device.old }
+    ensures size { D.blocks device.new ≡ D.blocks device.old }
+    ensures count { CountsAtMost 435 (D.reads device.old) (D.reads device.new) }
+{
+    let geometry = read_geometry(alloc, device)?;
+    let manifest = Manifest::open(alloc, device, &geometry)?;
+    Ok((geometry, manifest))
+}
+
+/// Reads the log that the manifest names: the log, and the items of its groups.
+fn read_log<D: Device>(
+    alloc: Global,
+    device: &mut D,
+    geometry: &Geometry,
+    manifest: &Manifest,
+) -> Result<(Log, Vec<Item>), OpenFault>
+    requires geometry { manifest.now.geometry ≡ geometry.now }
+    requires room { blocks_needed geometry.now manifest.now.manifest.header.extents ≤ D.blocks device.old }
+    ensures log { IfOk result (λ read. read.0 ≡ log_at manifest.now read.0.slots) }
+    ensures slots { IfOk result (λ read. read.0.slots ≤ geometry.now.slots) }
+    ensures enough { IfOk result (λ read. read.0.slots ≤ length read.1.items) }
+    ensures valid { IfOk result (λ read. IsTrue (list_all is_valid read.1.items)) }
+    ensures fits { IfOk result (λ read. IsTrue (log_fits manifest.now.manifest.header.writes read.1.items)) }
+    ensures read { IfOk result (λ read. ForSome (D.state device.old).shown (HasItems geometry.now manifest.now.manifest.header.log_area manifest.now.manifest.header.writes read.0.slots read.1.items)) }
+    ensures damaged { (b : ℕ) → IsErrOf result (OpenFault.Damaged b) → ForSome (D.state device.old).shown (λ image.
+        log_groups geometry.now image manifest.now.manifest.header.log_area manifest.now.manifest.header.writes ≡ Err b) }
+    ensures damaged_block { (b : ℕ) → IsErrOf result (OpenFault.Damaged b) → IsBelowExtents b }
+    ensures cause { IsErrOf result OpenFault.Device → Rose (D.faults device.old) (D.faults device.new) }
+    ensures later { D.faults device.old ≤ D.faults device.new }
+    ensures state { D.state device.new ≡ D.state device.old }
+    ensures size { D.blocks device.new ≡ D.blocks device.old }
+    ensures count { CountsAtMost (2 * geometry.now.slots) (D.reads device.old) (D.reads device.new) }
+{
+    let header = manifest.header();
+    Log::open(alloc, device, geometry, header.log_area, header.writes)
+}
+
+/// Reads the filters of the root's tables: for each extent of the store those of its table, if it has
+/// one of the root's.
+fn root_filters<D: Device>(
+    alloc: Global,
+    device: &mut D,
+    geometry: &Geometry,
+    manifest: &Manifest,
+) -> Result<Vec<Option<FilterPage>>, OpenFault>
+    requires geometry { manifest.now.geometry ≡ geometry.now }
+    requires room { blocks_needed geometry.now manifest.now.manifest.header.extents ≤ D.blocks device.old }
+    ensures len { IfOk result (λ filters. vec_len filters ≡ manifest.now.manifest.header.extents) }
+    ensures filters { IfOk result (λ filters. ForSome (D.state device.old).shown (KeepsFilters geometry.now filters.items (root_pile manifest.now.manifest.trie))) }
+    ensures fault { (b : ℕ) → IsErrOf result (OpenFault.Damaged b) → ⊥ }
+    ensures cause { IsErrOf result OpenFault.Device → Rose (D.faults device.old) (D.faults device.new) }
+    ensures later { D.faults device.old ≤ D.faults device.new }
+    ensures state { D.state device.new ≡ D.state device.old }
+    ensures size { D.blocks device.new ≡ D.blocks device.old }
+    ensures count { CountsAtMost (length (root_pile manifest.now.manifest.trie)) (D.reads device.old) (D.reads device.new) }
+{
+    let mut filters = no_filters(alloc, manifest.header().extents)?;
+    for number in manifest.trie().pile(ROOT) {
+        let page = read_page(alloc, device, geometry.extent(*number))?;
+        filters[*number as usize] = Some(page);
+    }
+    Ok(filters)
+}
+
+/// Reads the filters of the table whose extent begins at this block.
+fn read_page<D: Device>(
+    alloc: Global,
+    device: &mut D,
+    first: u64,
+) -> Result<FilterPage, OpenFault>
+    requires { first + 65 ≤ D.blocks device.old }
+    ensures filters { IfOk result (λ filters. ForSome (D.state device.old).shown (λ image. filters ≡ block_at image (first + 64))) }
+    ensures fault { (b : ℕ) → IsErrOf result (OpenFault.Damaged b) → ⊥ }
+    ensures cause { IsErrOf result OpenFault.Device → Rose (D.faults device.old) (D.faults device.new) }
+    ensures later { D.faults device.old ≤ D.faults device.new }
+    ensures state { D.state device.new ≡ D.state device.old }
+    ensures size { D.blocks device.new ≡ D.blocks device.old }
+    ensures count { CountsOne (D.reads device.old) (D.reads device.new) }
+{
+    match read_filters(alloc, device, first) {
+        Ok(filters) => Ok(filters),
+        Err(BuildFault::Device) => Err(OpenFault::Device),
+        Err(BuildFault::NoMemory) => Err(OpenFault::NoMemory),
+    }
+}
+
+/// No filters, for so many extents.
+fn no_filters(alloc: Global, extents: u32) -> Result<Vec<Option<FilterPage>>, NoMemory>
+    ensures items { IfOk result (λ filters. filters.items ≡ replicate extents None) }
+    ensures len { IfOk result (λ filters. vec_len filters ≡ extents) }
+{
+    let mut filters = Vec::with_capacity(alloc, extents as usize)?;
+    for _ in 0..extents {
+        filters.push(None)?;
+    }
+    Ok(filters)
+}
+
+/// The extents of a manifest, of which those are taken that it names.
+fn taken_extents(alloc: Global, manifest: &Manifest) -> Result<Extents, NoMemory>
+    ensures { IfOk result (AreTaken manifest.now.manifest.header.extents (named manifest.now.manifest.trie)) }
+{
+    let used = manifest.trie().referenced(alloc)?;
+    Extents::of(alloc, manifest.header().extents, &used)
+}
+
+/// A memory table with these items, which it has room for.
+fn memory_of(alloc: Global, items: &[Item]) -> Result<MemTable, NoMemory>
+    requires valid { IsTrue (list_all is_valid items.now) }
+    requires room { total_cost items.now ≤ table_room }
+    ensures { IfOk result (λ memory. memory ≡ items.now) }
+{
+    let mut memory = MemTable::new(alloc)?;
+    for item in items {
+        put_item(&mut memory, &item.view());
+    }
+    Ok(memory)
+}
+
+/// Puts an item into the memory table.
+fn put_item(memory: &mut MemTable, item: &ItemView<'_>)
+    requires valid { IsTrue (is_valid (item_of item.now)) }
+    requires room { total_cost memory.old + item_cost (item_of item.now) ≤ table_room }
+    ensures { memory.new ≡ memory.old ++ item_of item.now ∷ [] }
+{
+    match item.kind {
+        Kind::Put => memory.put(item.key, item.value),
+        Kind::Delete => memory.delete(item.key),
+    }
+}
