@@ -1,4 +1,5 @@
 pub mod AnswerLaws
+pub mod CountLaws
 pub mod GetLaws
 pub mod LookLaws
 pub mod PileLaws

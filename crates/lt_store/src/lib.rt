@@ -1,9 +1,11 @@
 //! The store: puts and deletes into a log and a memory table, tables of the root, and gets.
 #![tactic(auto)]
 
+mod counts;
 mod faults;
 mod getting;
 mod store;
 
+pub use counts::Stat;
 pub use faults::{InitFault, WriteFault};
 pub use store::Store;
