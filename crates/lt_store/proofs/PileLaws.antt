@@ -1,7 +1,7 @@
 -- Asking the tables of a pile one after another, the newest first.
-use Rattle.std.proofs.Common.{◌≡◌, ℕ, zero, suc, ◌+◌, ◌-◌, ◌*◌, ◌<◌, ◌≤◌, min, max, refl, sym, ap, subst, ◌∙◌, List, [], ◌∷◌, ◌++◌, length, get_or, take, drop, Bool, true, false, cond, Option, Some, None, Ok, Err, arith, ⊎_elim}
-use Rattle.std.specs.Prelude.{IsTrue, count_by}
-use Rattle.std.specs.List.{AllByRecursion, flat_map, sum_by}
+use Rattle.std.proofs.Common.{◌≡◌, ℕ, zero, suc, ◌+◌, ◌-◌, ◌<◌, ◌≤◌, refl, sym, ap, subst, ◌∙◌, List, [], ◌∷◌, length, get_or, take, drop, Bool, true, false, cond, Option, Some, None, Ok, Err, arith, ⊎_elim}
+use Rattle.std.specs.Prelude.{count_by}
+use Rattle.std.specs.List.{AllByRecursion, flat_map}
 use Rattle.std.specs.Option.{is_some}
 use Rattle.std.proofs.lemmas.List.{drop_more, drop-drop, get_or-drop, length-drop, take-append-drop}
 use Rattle.std.proofs.lemmas.Bool.{cases_lt, true≢false}
@@ -62,10 +62,10 @@ module _ (held : ℕ → List Item) (key : List ℕ) where
   held-before tables i j none below found = ⊎_elim
       (λ (before : j < i). before)
       (λ (past : i ≤ j).
-          let there : i + (j - i) ≡ j = omega arith in
-          let within : j - i < length (drop i tables) = omega (arith, length-drop i tables) in
-          let is : newest_of key (held (get_or tables j 0)) ≡ None = ap (λ m. newest_of key (held (get_or tables m 0))) (sym there) ∙ ap (λ x. newest_of key (held x)) (sym (get_or-drop i tables (j - i) 0)) ∙ none_each (drop i tables) (j - i) none within in
-          absurd (true≢false (sym found ∙ ap is_some is)))
+      let there : i + (j - i) ≡ j = omega arith in
+      let within : j - i < length (drop i tables) = omega (arith, length-drop i tables) in
+      let is : newest_of key (held (get_or tables j 0)) ≡ None = ap (λ m. newest_of key (held (get_or tables m 0))) (sym there) ∙ ap (λ x. newest_of key (held x)) (sym (get_or-drop i tables (j - i) 0)) ∙ none_each (drop i tables) (j - i) none within in
+      absurd (true≢false (sym found ∙ ap is_some is)))
       (cases_lt j i)
 
 -- ---- how many tables are asked

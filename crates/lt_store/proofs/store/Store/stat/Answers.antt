@@ -1,4 +1,4 @@
-use Rattle.std.proofs.Common.{ℕ, vec_len}
+use Rattle.std.proofs.Common.{vec_len}
 use Rattle.lt_store.proofs.CountLaws.{tables-free}
 use Rattle.lt_store.proofs.store.Store.stat.Goals as goal
 
