@@ -234,6 +234,7 @@ roomy_ok blocks (Some q) g h = by_room (nat_le (blocks_needed q 0) blocks) h
 pub record IsNamed (image : Image) (n : Named) : Type 0 where
   pub geometry : is_geometry n.geometry ≡ true
   pub read : IsRead n.geometry (length image) n.manifest
+  pub area : n.area ≡ selected (block_at image selector_block)
 
 -- A MANIFEST that an image names
 pub manifest_of-named : (image : Image) (n : Named) → manifest_of image ≡ Ok n → IsNamed image n
@@ -246,4 +247,5 @@ manifest_of-named image n h =
     subst (IsNamed image) (ok_same named_so n m.2) (record {
       geometry = geometry_ok (block_at image 0) g.0 (roomy_ok (length image) (geometry_of (block_at image 0)) g.0 g.1);
       read = snapshot_ok g.0 (length image) (area_byte image area) m.0 (as_block_ok area (snapshot_read g.0 (length image) (area_byte image area)) m.0 m.1);
+      area = refl;
     })

@@ -1,5 +1,5 @@
 -- Soundness is kept by a flush.
-use Rattle.std.proofs.Common.{◌≡◌, ℕ, zero, suc, ◌+◌, ◌-◌, ◌*◌, ◌≤◌, refl, sym, ap, subst, ◌∙◌, List, [], ◌∷◌, ◌++◌, map, length, take, drop, Bool, true, false, not, cond, Some, arith, append-nil, le-ltb}
+use Rattle.std.proofs.Common.{◌≡◌, ℕ, ◌+◌, ◌-◌, ◌*◌, ◌≤◌, refl, sym, ap, subst, ◌∙◌, List, [], ◌∷◌, ◌++◌, map, length, drop, Bool, true, false, not, cond, Some, arith, append-nil, le-ltb}
 use Rattle.std.specs.Prelude.{slice_range, nat_lt}
 use Rattle.std.specs.FinMap.{find}
 use Rattle.std.specs.List.{flat_map, filter, range_with_len, AllByRecursion, enumerate_from}
@@ -11,6 +11,7 @@ use Rattle.lt_tables.specs.Placement.{columns}
 use Rattle.lt_tables.specs.Table.{IsPlaced}
 use Rattle.lt_tables.specs.Merge.{newest}
 use Rattle.lt_tables.specs.Group.{group_block}
+use Rattle.lt_tables.proofs.FitLaws.{all_weaker}
 use Rattle.lt_format.specs.declared.node_id.NodeId.{NodeId}
 use Rattle.lt_format.specs.declared.geometry.Geometry.{Geometry}
 use Rattle.lt_format.specs.Layout.{extent_block, area_block}
@@ -22,35 +23,14 @@ use Rattle.lt_image.specs.Opening.{Opened}
 use Rattle.lt_image.specs.Versions.{extent_in, items_at, stored_items}
 use Rattle.lt_image.specs.Soundness.{block_if, bad_in_table, bad_table_blocks, bad_group_blocks, bad_node_blocks, bad_blocks, filter_blocks}
 use Rattle.lt_image.specs.After.{SameExtent, SameExtents}
-use Rattle.lt_image.proofs.SoundLaws.{flat_map_nil, nil_flat_map, nil_append, all_map}
+use Rattle.lt_image.proofs.ListLaws.{all_left, all_right, all_take, all_drop}
+use Rattle.lt_image.proofs.SoundLaws.{flat_map_nil, nil_flat_map, nil_append}
 use Rattle.lt_image.proofs.MapLaws.{same_items}
 use Rattle.lt_image.proofs.TableSoundLaws.{filter-range, same_bad_in_table, Holdable, placed-sound}
 
 -- the nodes of a trie have no bad block
 abbrev pub SoundNodes : Geometry → Image → Trie → Type 0
 SoundNodes g image trie = AllByRecursion (λ e. bad_node_blocks g image e ≡ []) trie
-
-all_left : {A : Type 0} (P : A → Type 0) (xs ys : List A) → AllByRecursion P (xs ++ ys) → AllByRecursion P xs
-all_left P [] ys all = tt
-all_left P (x ∷ xs) ys all = (all.0, all_left P xs ys all.1)
-
-all_right : {A : Type 0} (P : A → Type 0) (xs ys : List A) → AllByRecursion P (xs ++ ys) → AllByRecursion P ys
-all_right P [] ys all = all
-all_right P (x ∷ xs) ys all = all_right P xs ys all.1
-
-all_append : {A : Type 0} (P : A → Type 0) (xs ys : List A) → AllByRecursion P xs → AllByRecursion P ys → AllByRecursion P (xs ++ ys)
-all_append P [] ys a b = b
-all_append P (x ∷ xs) ys a b = (a.0, all_append P xs ys a.1 b)
-
-all_take : (P : ℕ → Type 0) (n : ℕ) (xs : List ℕ) → AllByRecursion P xs → AllByRecursion P (take n xs)
-all_take P zero xs all = tt
-all_take P (suc n) [] all = tt
-all_take P (suc n) (x ∷ xs) all = (all.0, all_take P n xs all.1)
-
-all_drop : (P : ℕ → Type 0) (n : ℕ) (xs : List ℕ) → AllByRecursion P xs → AllByRecursion P (drop n xs)
-all_drop P zero xs all = all
-all_drop P (suc n) [] all = tt
-all_drop P (suc n) (x ∷ xs) all = all_drop P n xs all.1
 
 -- ---- blocks as before
 
@@ -120,7 +100,7 @@ unfolding node_at
 node_at-holds P id trie none all = node_holds P id trie none all
 
 sound_tables : (g : Geometry) (image : Image) (id : NodeId) (xs : List ℕ) → AllByRecursion (λ x. NewTable id (extent_in g image x)) xs → flat_map (bad_table_blocks g image id) xs ≡ []
-sound_tables g image id xs all = flat_map_nil (bad_table_blocks g image id) xs (all_map (λ x. NewTable id (extent_in g image x)) (λ x. bad_table_blocks g image id x ≡ []) (λ x t. new_table-sound g image id x t) xs all)
+sound_tables g image id xs all = flat_map_nil (bad_table_blocks g image id) xs (all_weaker (λ x. NewTable id (extent_in g image x)) (λ x. bad_table_blocks g image id x ≡ []) (λ x t. new_table-sound g image id x t) xs all)
 
 no_groups : (g : Geometry) (image : Image) (tables groups : List ℕ) → groups ≡ [] → flat_map (bad_group_blocks g image tables) (enumerate_from 0 groups) ≡ []
 no_groups g image tables groups e = ap (λ gs. flat_map (bad_group_blocks g image tables) (enumerate_from 0 gs)) e

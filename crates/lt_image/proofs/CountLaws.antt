@@ -23,15 +23,22 @@ use Rattle.lt_tables.proofs.CutLaws.{cut-joined}
 use Rattle.lt_tables.proofs.TableLaws.{table_items-placed}
 use Rattle.lt_format.specs.declared.node_id.NodeId.{NodeId}
 use Rattle.lt_format.specs.declared.geometry.Geometry.{Geometry}
-use Rattle.lt_format.specs.Trie.{Node, Trie, root, node_cmp, same_node, node_at, with_node, empty_node}
+use Rattle.lt_format.specs.Trie.{Node, Trie, root, node_cmp, same_node, node_at, with_node, named, empty_node}
 use Rattle.lt_format.specs.Changes.{flush, appended, after_change}
 use Rattle.lt_format.proofs.TrieLaws.{same_node-same, node_exact, find-below, below-less, where_key-below}
 use Rattle.lt_image.specs.Opening.{Opened, open_image, log_items, number_of}
 use Rattle.lt_image.specs.Versions.{extent_in, items_at, pile_items, level_nodes, level_items, items_above, stored_items}
 use Rattle.lt_image.specs.Soundness.{bad_blocks}
-use Rattle.lt_image.specs.After.{Follows, PlacedIn, Flushes}
+use Rattle.lt_image.specs.After.{SameExtents, Follows, PlacedIn, Flushes}
 use Rattle.lt_image.proofs.KeptLaws.{items_above-same, stored-few}
 use Rattle.lt_image.proofs.OpenLaws.{opens-well}
+use Rattle.lt_image.proofs.StandLaws.{flush-stands, stands-as}
+use Rattle.lt_image.specs.Standing.{Stands}
+use Rattle.lt_language.specs.Machine.{State}
+use Rattle.lt_format.specs.declared.header.Header.{Header}
+use Rattle.lt_format.specs.Log.{items_in}
+use Rattle.lt_format.specs.Naming.{after_commit}
+use Rattle.lt_format.specs.Snapshot.{Manifest}
 
 length-joined : {A B : Type 0} (f : A → List B) (xs : List A) → length (flat_map f xs) ≡ total (λ x. length (f x)) xs
 length-joined f [] = refl
@@ -254,3 +261,16 @@ flushes old new o p tables opens sound f placed emptied number = record {
       let count : p.named.manifest.header.writes + length (log_items p) ≡ number_of o = number in
       omega (arith, flushed-few old new o p tables opens sound f placed, none, count);
 }
+
+-- THE COMMIT of a flush: the manifest's header counts all writes of the image before, and the log is empty
+pub flush-committed : (old new : Image) (o p : Opened) (tables : List ℕ) (header : Header) (s : State) → open_image old ≡ Ok o → open_image new ≡ Ok p → Stands old s
+    → p.named.geometry ≡ o.named.geometry → p.named.manifest ≡ after_commit o.named.manifest (flush tables) header → header.writes ≡ number_of o → p.groups ≡ []
+    → SameExtents o.named.geometry old new (named o.named.manifest.trie) → PlacedIn o.named.geometry new tables (cut (newest (log_items o))) → Stands new s
+flush-committed old new o p tables header s opens_old opens_new st geometry manifest writes empty kept placed =
+    let follows : Follows o p old new (flush tables) = record { geometry = geometry; trie = ap (λ (m : Manifest). m.trie) manifest; kept = kept } in
+    let emptied : log_items p ≡ [] = ap items_in empty in
+    let none : length (log_items p) ≡ 0 = ap length emptied in
+    let counted : p.named.manifest.header.writes ≡ header.writes = ap (λ (m : Manifest). m.header.writes) manifest in
+    let all : header.writes ≡ o.named.manifest.header.writes + length (log_items o) = writes in
+    let number : number_of p ≡ number_of o = omega arith in
+    flush-stands old new o p tables s opens_old opens_new st (flushes old new o p tables opens_old (stands-as old o s opens_old st).sound follows placed emptied number) number

@@ -1,7 +1,7 @@
 -- What an image stands for while its manifest and the extents that this names are as before.
 use Rattle.std.proofs.Common.{◌≡◌, ℕ, zero, suc, ◌+◌, ◌≤◌, refl, sym, ap, subst, ◌∙◌, List, [], ◌∷◌, ◌++◌, length, Bool, true, false, cond, Ok, arith, append_assoc, append-nil}
 use Rattle.std.specs.Prelude.{◌==◌, nat_lt}
-use Rattle.std.specs.List.{flat_map, AllByRecursion}
+use Rattle.std.specs.List.{flat_map}
 use Rattle.std.proofs.lemmas.List.{length-append}
 use Rattle.std.proofs.lemmas.List.Concat.{flat_map-append}
 use Rattle.std.proofs.lemmas.List.Sums.{fold-append}
@@ -9,7 +9,7 @@ use Rattle.std.proofs.lemmas.Bool.{ltb-false}
 use Rattle.lt_terms.specs.Bytes.{Image}
 use Rattle.lt_terms.specs.Items.{Item}
 use Rattle.lt_terms.specs.Maps.{empty_map, applied, after_items}
-use Rattle.lt_language.specs.Machine.{State, nothing_yet}
+use Rattle.lt_language.specs.Machine.{State, nothing_yet, after_write}
 use Rattle.lt_format.specs.declared.node_id.NodeId.{NodeId}
 use Rattle.lt_format.specs.declared.geometry.Geometry.{Geometry}
 use Rattle.lt_format.specs.Layout.{area_block}
@@ -20,18 +20,11 @@ use Rattle.lt_image.specs.Versions.{extent_in, pile_items, level_nodes, level_it
 use Rattle.lt_image.specs.Soundness.{bad_node_blocks, bad_blocks}
 use Rattle.lt_image.specs.Standing.{Stands, after_writes}
 use Rattle.lt_image.specs.After.{SameExtent, SameExtents, Keeps}
+use Rattle.lt_image.proofs.ListLaws.{all_left, all_right}
 use Rattle.lt_image.proofs.SoundLaws.{nil_append, nil_block_if}
 use Rattle.lt_image.proofs.MapLaws.{same_items}
 use Rattle.lt_image.proofs.AfterLaws.{SoundNodes, kept-nodes, sound_by_nodes, sound_nodes}
 use Rattle.lt_image.proofs.StandLaws.{StandsAs, stands-as, as-stands}
-
-left_all : {A : Type 0} (P : A → Type 0) (xs ys : List A) → AllByRecursion P (xs ++ ys) → AllByRecursion P xs
-left_all P [] ys all = tt
-left_all P (x ∷ xs) ys all = (all.0, left_all P xs ys all.1)
-
-right_all : {A : Type 0} (P : A → Type 0) (xs ys : List A) → AllByRecursion P (xs ++ ys) → AllByRecursion P ys
-right_all P [] ys all = all
-right_all P (x ∷ xs) ys all = right_all P xs ys all.1
 
 -- ---- the stored items
 
@@ -41,10 +34,10 @@ pile_same g old new (x ∷ tables) same = λ i. same_items (extent_in g old x) (
 
 level_same : (g : Geometry) (old new : Image) (trie : Trie) (level : ℕ) → SameExtents g old new (named trie) → level_items g new trie level ≡ level_items g old trie level
 level_same g old new [] level same = refl
-level_same g old new (e ∷ es) level same = by_level (e.0.level == level) (level_same g old new es level (right_all (SameExtent g old new) (node_extents e.1) (named es) same))
+level_same g old new (e ∷ es) level same = by_level (e.0.level == level) (level_same g old new es level (all_right (SameExtent g old new) (node_extents e.1) (named es) same))
   where
     here : pile_items g new e.1.tables ≡ pile_items g old e.1.tables
-    here = pile_same g old new e.1.tables (left_all (SameExtent g old new) e.1.tables e.1.groups (left_all (SameExtent g old new) (node_extents e.1) (named es) same))
+    here = pile_same g old new e.1.tables (all_left (SameExtent g old new) e.1.tables e.1.groups (all_left (SameExtent g old new) (node_extents e.1) (named es) same))
 
     by_level : (b : Bool) → level_items g new es level ≡ level_items g old es level
         → flat_map (λ (e : NodeId × Node). pile_items g new e.1.tables) (cond b (e ∷ level_nodes es level) (level_nodes es level)) ≡ flat_map (λ (e : NodeId × Node). pile_items g old e.1.tables) (cond b (e ∷ level_nodes es level) (level_nodes es level))
@@ -121,3 +114,18 @@ fresh-stands image o opens bare none empty =
       map = (λ i. after_items empty_map (stored i ++ items_in (empty i)));
       writes = (λ i. none i + length (items_in (empty i)));
     })
+
+-- ---- writes one after another
+
+pub no_writes : (s : State) → after_writes s [] ≡ s
+no_writes s = let same : s.writes + 0 ≡ s.writes = omega arith in λ i. record { map = s.map; writes = same i }
+
+pub writes-joined : (s : State) (first rest : List Item) → after_writes (after_writes s first) rest ≡ after_writes s (first ++ rest)
+writes-joined s first rest =
+    let maps : after_items (after_items s.map first) rest ≡ after_items s.map (first ++ rest) = sym (fold-append applied s.map first rest) in
+    let long : length (first ++ rest) ≡ length first + length rest = length-append first rest in
+    let counts : s.writes + length first + length rest ≡ s.writes + length (first ++ rest) = omega arith in
+    λ i. record { map = maps i; writes = counts i }
+
+pub one_write : (s : State) (item : Item) → after_writes s (item ∷ []) ≡ after_write s item
+one_write s item = refl

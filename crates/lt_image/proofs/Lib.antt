@@ -1,4 +1,5 @@
 pub mod Words
+pub mod ListLaws
 pub mod ChangeLaws
 pub mod PathLaws
 pub mod SoundLaws
@@ -15,3 +16,4 @@ pub mod KeptLaws
 pub mod LocalLaws
 pub mod CountLaws
 pub mod RootLaws
+pub mod PrefixLaws

@@ -1,20 +1,21 @@
 -- What an image stands for rests on the blocks that its manifest names.
-use Rattle.std.proofs.Common.{◌≡◌, ℕ, zero, suc, ◌+◌, ◌*◌, ◌/◌, ◌-◌, ◌<◌, ◌≤◌, refl, sym, ap, subst, ◌∙◌, List, [], true, false, not, cond, ◌&&◌, Option, Result, Ok, arith}
+use Rattle.std.proofs.Common.{◌≡◌, length, ℕ, zero, suc, ◌+◌, ◌*◌, ◌/◌, ◌-◌, ◌<◌, ◌≤◌, refl, sym, ap, subst, ◌∙◌, List, [], true, false, not, cond, ◌&&◌, Option, Result, Ok, arith}
 use Rattle.std.specs.Prelude.{IsFalse, nat_le, nat_lt}
 use Rattle.lt_terms.specs.Bytes.{Image, block_at}
 use Rattle.lt_terms.specs.Items.{Item}
 use Rattle.lt_language.specs.Machine.{State}
-use Rattle.std.proofs.lemmas.Bool.{lt-leb}
+use Rattle.std.proofs.lemmas.Bool.{lt-leb, le-leb, lt-ltb, leb-true, ltb-true, and_parts, and_from, not-true, not_from_false}
 use Rattle.std.proofs.Math.Bool.{and-false}
 use Rattle.lt_tables.specs.Filter.{is_in}
 use Rattle.lt_tables.proofs.CoverLaws.{within_itself}
-use Rattle.lt_image.proofs.SoundLaws.{all_map}
+use Rattle.lt_tables.proofs.FitLaws.{all_weaker}
 use Rattle.lt_format.specs.declared.geometry.Geometry.{Geometry}
-use Rattle.lt_format.specs.Layout.{is_open, log_gate, log_content, first_open, closed_from, extent_block, extent_blocks}
+use Rattle.lt_format.specs.Layout.{selected, selector_block, is_open, log_gate, log_content, first_open, closed_from, extent_block, extent_blocks}
 use Rattle.lt_format.specs.Log.{group_on, with_group, read_with, log_from, log_groups}
 use Rattle.lt_format.specs.Snapshot.{◌>>=◌}
 use Rattle.lt_format.specs.Naming.{Named, manifest_of}
 use Rattle.lt_format.specs.Trie.{named}
+use Rattle.lt_format.proofs.LocalLaws.{manifest-local}
 use Rattle.lt_format.proofs.ReadLaws.{ok_same, manifest_of-named}
 use Rattle.lt_image.specs.Opening.{Opened, open_image}
 use Rattle.lt_image.specs.Standing.{Stands, is_free_block}
@@ -83,9 +84,38 @@ extent_not_free m x c there small =
     ∙ ap (λ t. nat_le (extent_block m.geometry 0) n && nat_lt x m.manifest.header.extents && not t) there
     ∙ and-false (nat_le (extent_block m.geometry 0) n && nat_lt x m.manifest.header.extents)
 
+pub fixed_not_free : (m : Named) (n : ℕ) → n < 868 → is_free_block m n ≡ false
+fixed_not_free m n low =
+    ap (λ t. t && nat_lt ((n - extent_block m.geometry 0) / extent_blocks) m.manifest.header.extents && not (is_in ((n - extent_block m.geometry 0) / extent_blocks) (named m.manifest.trie)))
+    (lt-leb (extent_block m.geometry 0) n (omega arith))
+
 pub not_free-named : (old new : Image) (m : Named) → manifest_of old ≡ Ok m → ((n : ℕ) → IsFalse (is_free_block m n) → block_at old n ≡ block_at new n) → SameNamed m old new
 not_free-named old new m names same = record {
   log = λ n low high. sym (same n (log_not_free m n (manifest_of-named old m names).read.area high));
-  kept = all_map (λ x. is_in x (named m.manifest.trie) ≡ true) (SameExtent m.geometry old new)
+  kept = all_weaker (λ x. is_in x (named m.manifest.trie) ≡ true) (SameExtent m.geometry old new)
       (λ x there c small. sym (same (extent_block m.geometry x + c) (extent_not_free m x c there small))) (named m.manifest.trie) (within_itself (named m.manifest.trie));
 }
+
+-- so an image that differs from another only in free blocks names the same
+pub not_free-manifest : (old new : Image) (m : Named) → length new ≡ length old → manifest_of old ≡ Ok m → ((n : ℕ) → IsFalse (is_free_block m n) → block_at old n ≡ block_at new n) → manifest_of new ≡ Ok m
+not_free-manifest old new m long names same =
+    let low : (n : ℕ) → n < 868 → block_at new n ≡ block_at old n = λ n small. sym (same n (fixed_not_free m n small)) in
+    manifest-local old new long low ∙ names
+
+-- ---- free blocks
+
+pub unnamed-free : (m : Named) (x n : ℕ) → x < m.manifest.header.extents → is_in x (named m.manifest.trie) ≡ false → extent_block m.geometry x ≤ n → n < extent_block m.geometry x + extent_blocks → is_free_block m n ≡ true
+unnamed-free m x n small none low high =
+    let number : (n - extent_block m.geometry 0) / extent_blocks ≡ x = omega arith in
+    ap (λ y. nat_le (extent_block m.geometry 0) n && nat_lt y m.manifest.header.extents && not (is_in y (named m.manifest.trie))) number
+    ∙ and_from (nat_le (extent_block m.geometry 0) n && nat_lt x m.manifest.header.extents) (not (is_in x (named m.manifest.trie)))
+    (and_from (nat_le (extent_block m.geometry 0) n) (nat_lt x m.manifest.header.extents) (le-leb (extent_block m.geometry 0) n (omega arith)) (lt-ltb x m.manifest.header.extents small))
+    (not_from_false (is_in x (named m.manifest.trie)) none)
+
+pub free-unnamed : (m : Named) (n : ℕ) → is_free_block m n ≡ true → (x : ℕ) × (x < m.manifest.header.extents) × (is_in x (named m.manifest.trie) ≡ false) × (extent_block m.geometry x ≤ n) × (n < extent_block m.geometry x + extent_blocks)
+free-unnamed m n h =
+    let x : ℕ = (n - extent_block m.geometry 0) / extent_blocks in
+    let b = and_parts (nat_le (extent_block m.geometry 0) n && nat_lt x m.manifest.header.extents) (not (is_in x (named m.manifest.trie))) h in
+    let a = and_parts (nat_le (extent_block m.geometry 0) n) (nat_lt x m.manifest.header.extents) b.0 in
+    let low : extent_block m.geometry 0 ≤ n = leb-true (extent_block m.geometry 0) n a.0 in
+    (x, ltb-true x m.manifest.header.extents a.1, not-true (is_in x (named m.manifest.trie)) b.1, omega arith, omega arith)

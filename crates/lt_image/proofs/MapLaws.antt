@@ -1,5 +1,5 @@
 -- The map of an image after a flush is the map before.
-use Rattle.std.proofs.Common.{◌≡◌, ℕ, suc, ◌<◌, sym, ap, subst, ◌∙◌, List, [], ◌∷◌, ◌++◌, Bool, true, false, cond, Option, Some, arith}
+use Rattle.std.proofs.Common.{◌≡◌, ℕ, suc, ◌<◌, sym, ap, subst, ◌∙◌, List, [], ◌∷◌, Bool, true, false, cond, Option, Some, arith}
 use Rattle.std.specs.Cmp.Lexicographic.{nat_list_cmp_total}
 use Rattle.std.specs.FinMap.{same_map, slice_cmp-IsAntisymmetric, nat_cmp-IsAntisymmetric, find}
 use Rattle.std.specs.List.{flat_map, AllByRecursion}
@@ -12,6 +12,7 @@ use Rattle.lt_tables.specs.Placement.{columns}
 use Rattle.lt_tables.specs.Table.{table_items}
 use Rattle.lt_tables.specs.Merge.{newest_of, value_of}
 use Rattle.lt_tables.specs.Alike.{SameNewest}
+use Rattle.lt_tables.proofs.FitLaws.{all_weaker}
 use Rattle.lt_tables.proofs.TableLaws.{flat_map-range}
 use Rattle.lt_tables.proofs.NewestLaws.{SameNewest-refl}
 use Rattle.lt_tables.proofs.VersionLaws.{get_versions}
@@ -23,6 +24,7 @@ use Rattle.lt_image.specs.Opening.{Opened, log_items}
 use Rattle.lt_image.specs.Versions.{extent_in, items_at, versions, map_of}
 use Rattle.lt_image.proofs.Words.{IsSorted, on_level, on_path}
 use Rattle.lt_image.specs.After.{SameExtents, Follows}
+use Rattle.lt_image.proofs.ListLaws.{all_left, all_right}
 use Rattle.lt_image.proofs.PathLaws.{newest_of-versions}
 use Rattle.lt_image.proofs.KeepLaws.{KeepsTables, flush-found}
 
@@ -32,18 +34,6 @@ unfolding columns
 same_items old new same = flat_map-range (λ c. items_on (new c)) (λ c. items_on (old c)) 0 64 (λ c small. ap items_on (same c (omega arith)))
 
 -- ---- extents that are as before
-
-all_left : {A : Type 0} (P : A → Type 0) (xs ys : List A) → AllByRecursion P (xs ++ ys) → AllByRecursion P xs
-all_left P [] ys all = tt
-all_left P (x ∷ xs) ys all = (all.0, all_left P xs ys all.1)
-
-all_right : {A : Type 0} (P : A → Type 0) (xs ys : List A) → AllByRecursion P (xs ++ ys) → AllByRecursion P ys
-all_right P [] ys all = all
-all_right P (x ∷ xs) ys all = all_right P xs ys all.1
-
-all_within : {A : Type 0} (P Q : A → Type 0) → ((x : A) → P x → Q x) → (xs : List A) → AllByRecursion P xs → AllByRecursion Q xs
-all_within P Q f [] all = tt
-all_within P Q f (x ∷ xs) all = (f x all.0, all_within P Q f xs all.1)
 
 found_all : (P : ℕ → Type 0) (id : NodeId) (e : NodeId × Node) (es : Trie) (same : Bool) → AllByRecursion P e.1.tables → AllByRecursion P (unwrap_or (find node_cmp id es) empty_node).tables → AllByRecursion P (unwrap_or (cond same (Some e.1) (find node_cmp id es)) empty_node).tables
 found_all P id e es true here rest = here
@@ -63,7 +53,7 @@ named-tables P trie id all = node_all P id trie all
 pub kept-tables : (g : Geometry) (old new : Image) (trie : Trie) → SameExtents g old new (named trie) → KeepsTables (items_at g old) (items_at g new) trie
 kept-tables g old new trie same = record {
   each = λ id.
-      all_within (λ x. (c : ℕ) → c < 65 → extent_in g new x c ≡ extent_in g old x c) (λ x. SameNewest (items_at g new x) (items_at g old x))
+      all_weaker (λ x. (c : ℕ) → c < 65 → extent_in g new x c ≡ extent_in g old x c) (λ x. SameNewest (items_at g new x) (items_at g old x))
       (λ x h. subst (λ xs. SameNewest (items_at g new x) xs) (same_items (extent_in g old x) (extent_in g new x) h) (SameNewest-refl (items_at g new x)))
       (node_at trie id).tables (named-tables (λ x. (c : ℕ) → c < 65 → extent_in g new x c ≡ extent_in g old x c) trie id same);
 }

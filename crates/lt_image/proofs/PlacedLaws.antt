@@ -14,6 +14,7 @@ use Rattle.lt_tables.specs.Table.{bucket_in, IsPlaced}
 use Rattle.lt_tables.specs.Merge.{newest, newest_of}
 use Rattle.lt_tables.proofs.NewestLaws.{newest_of-newest}
 use Rattle.lt_tables.proofs.CoverLaws.{covers-filter_block}
+use Rattle.lt_tables.proofs.FitLaws.{all_weaker}
 use Rattle.lt_format.specs.declared.node_id.NodeId.{NodeId}
 use Rattle.lt_format.specs.declared.geometry.Geometry.{Geometry}
 use Rattle.lt_format.specs.Layout.{extent_block}
@@ -21,7 +22,7 @@ use Rattle.lt_format.specs.Trie.{Node, node_at}
 use Rattle.lt_image.specs.Opening.{Opened}
 use Rattle.lt_image.specs.Versions.{extent_in, items_at}
 use Rattle.lt_image.specs.Soundness.{block_if, spells, misplaced_columns, bad_in_table, bad_table_blocks, bad_group_blocks, bad_node_blocks, bad_blocks}
-use Rattle.lt_image.proofs.SoundLaws.{nil_append, nil_map, nil_flat_map, nil_block_if, all_map}
+use Rattle.lt_image.proofs.SoundLaws.{nil_append, nil_map, nil_flat_map, nil_block_if}
 use Rattle.lt_image.proofs.SpellsLaws.{spells-reads}
 use Rattle.lt_image.proofs.AfterLaws.{node_at-holds, sound_nodes}
 
@@ -75,7 +76,7 @@ placed-skips items block key p none = by_any (list_any (λ (v : Item). same_byte
 
 sound_tables-placed : (g : Geometry) (image : Image) (id : NodeId) (tables : List ℕ) → AllByRecursion (λ x. bad_table_blocks g image id x ≡ []) tables → AllByRecursion (λ x. IsPlaced (newest (items_at g image x)) (extent_in g image x)) tables
 sound_tables-placed g image id tables sound =
-    all_map (λ x. bad_table_blocks g image id x ≡ []) (λ x. IsPlaced (newest (items_at g image x)) (extent_in g image x))
+    all_weaker (λ x. bad_table_blocks g image id x ≡ []) (λ x. IsPlaced (newest (items_at g image x)) (extent_in g image x))
     (λ x none. sound_table-placed id (extent_in g image x) (newest (items_at g image x)) (nil_map (λ c. extent_block g x + c) (bad_in_table id (extent_in g image x) (newest (items_at g image x))) none))
     tables sound
 
@@ -90,6 +91,6 @@ named-placed image o id sound =
 pub named-skips : (image : Image) (o : Opened) (id : NodeId) (key : List ℕ) → bad_blocks o image ≡ [] → AllByRecursion (λ x. IsFalse (covers (extent_in o.named.geometry image x 64) (home_column key) key) → newest_of key (items_at o.named.geometry image x) ≡ None) (node_at o.named.manifest.trie id).tables
 named-skips image o id key sound =
     let g : Geometry = o.named.geometry in
-    all_map (λ x. IsPlaced (newest (items_at g image x)) (extent_in g image x)) (λ x. IsFalse (covers (extent_in g image x 64) (home_column key) key) → newest_of key (items_at g image x) ≡ None)
+    all_weaker (λ x. IsPlaced (newest (items_at g image x)) (extent_in g image x)) (λ x. IsFalse (covers (extent_in g image x 64) (home_column key) key) → newest_of key (items_at g image x) ≡ None)
     (λ x p none. sym (newest_of-newest key (items_at g image x)) ∙ placed-skips (newest (items_at g image x)) (extent_in g image x) key p none)
     (node_at o.named.manifest.trie id).tables (named-placed image o id sound)

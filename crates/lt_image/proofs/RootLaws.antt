@@ -14,7 +14,10 @@ use Rattle.lt_format.specs.Trie.{Node, Trie, root, path, node_cmp, same_node, no
 use Rattle.lt_format.specs.Changes.{flush, appended, after_change}
 use Rattle.lt_format.proofs.TrieLaws.{same_node-same}
 use Rattle.lt_format.proofs.ShapeLaws.{shaped-inner, node_at-shaped}
-use Rattle.lt_image.specs.OnPath.{stops_of, stops, has_only_root}
+use Rattle.lt_image.specs.OnPath.{Stop, first_some, at_stops, stops_of, stops, has_only_root}
+use Rattle.lt_terms.specs.Items.{Item}
+use Rattle.lt_tables.specs.Merge.{newest_of}
+use Rattle.lt_image.proofs.PathLaws.{first_some-pile}
 use Rattle.lt_image.proofs.ChangeLaws.{with_node-all, path-root, tables-flush}
 use Rattle.lt_image.proofs.KeepLaws.{other_level, itself}
 
@@ -55,6 +58,10 @@ stops_from trie key (suc n) some h =
 
 pub root-stops : (levels : ℕ) (trie : Trie) (key : List ℕ) → 1 ≤ levels → IsTrue (has_only_root trie) → stops levels trie key ≡ stops_of root (node_at trie root)
 root-stops levels trie key some h = stops_from trie key levels some h
+
+pub root-found : (held : ℕ → List Item) (levels : ℕ) (trie : Trie) (key : List ℕ) → 1 ≤ levels → IsTrue (has_only_root trie) → at_stops held levels trie key ≡ newest_of key (flat_map held (node_at trie root).tables)
+root-found held levels trie key some h =
+    ap (first_some (λ (s : Stop). newest_of key (held s.extent))) (root-stops levels trie key some h) ∙ first_some-pile held key root 0 (node_at trie root).tables
 
 -- ---- the extents
 

@@ -4,7 +4,7 @@ use Rattle.lt_terms.specs.Bytes.{Image, block_at}
 use Rattle.lt_device.specs.Image.{SameOutside}
 use Rattle.lt_format.specs.Layout.{is_open, edit_gate, edit_slots}
 use Rattle.lt_format.specs.Snapshot.{Manifest}
-use Rattle.lt_format.specs.Naming.{Named, HasManifest, InManifest, manifest_of}
+use Rattle.lt_format.specs.Naming.{Named, InManifest, manifest_of}
 
 -- the image has this geometry, and names this manifest in the area that is current
 pub record Names (named : Named) (image : Image) : Type 0 where

@@ -1,5 +1,14 @@
 pub mod AnswerLaws
+pub mod BuildLaws
+pub mod CommitLaws
 pub mod CountLaws
+pub mod CutLaws
+pub mod FlushLaws
 pub mod GetLaws
+pub mod GoLaws
+pub mod GroupLaws
 pub mod LookLaws
+pub mod MomentLaws
+pub mod NumberLaws
 pub mod PileLaws
+pub mod SameLaws

@@ -1,4 +1,5 @@
 pub mod Building
+pub mod Committing
 pub mod Getting
 pub mod Going
 pub mod Kept

@@ -1,7 +1,10 @@
 //! The store: puts and deletes into a log and a memory table, tables of the root, and gets.
 #![tactic(auto)]
 
+mod building;
+mod committing;
 mod counts;
+mod cutting;
 mod faults;
 mod getting;
 mod store;

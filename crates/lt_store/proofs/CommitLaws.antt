@@ -1,0 +1,148 @@
+-- What the commit of the open group says of the store.
+use Rattle.std.proofs.Common.{◌≡◌, ◌≢◌, ℕ, ◌+◌, ◌-◌, ◌<◌, ◌≤◌, refl, sym, ap, subst, ◌∙◌, true, List, [], ◌∷◌, ◌++◌, length, take, drop, arith, append-nil, ⊎_elim, length-append, length-take}
+use Rattle.std.specs.Prelude.{IsTrue, Bool}
+use Rattle.std.proofs.lemmas.Bool.{cases_lt}
+use Rattle.lt_terms.specs.Items.{Item}
+use Rattle.lt_device.specs.State as told
+use Rattle.lt_device.specs.Moments.{Leaves, MayLeave, ConfinedTo, UnsyncedIn}
+use Rattle.lt_language.specs.Machine.{State}
+use Rattle.lt_format.specs.Log.{items_in, log_fits, group_room}
+use Rattle.lt_format.specs.Naming.{Named}
+use Rattle.lt_format.specs.Trie.{named}
+use Rattle.lt_redo.specs.LogState.{LogState, slots_with}
+use Rattle.lt_redo.specs.Slots.{HasLog, InSlot}
+use Rattle.lt_redo.proofs.NextGroup.{AnyMoment, Committed}
+use Rattle.lt_image.specs.Standing.{Stands, after_writes}
+use Rattle.lt_image.proofs.RootLaws.{root-named}
+use Rattle.lt_format.specs.Layout.{is_geometry}
+use Rattle.std.proofs.lemmas.Bool.{and_parts, leb-true}
+use Rattle.std.specs.Prelude.{nat_le}
+use Rattle.lt_store.specs.Committing.{committed, committed_log}
+use Rattle.lt_store.specs.Going.{Goes, Survives}
+use Rattle.lt_store.specs.Kept.{IsKept, logged, logged_count}
+use Rattle.lt_store.specs.Open.{IsOpen, StoreView, root_pile}
+use Rattle.lt_store.proofs.FlushLaws.{Fits}
+use Rattle.lt_store.proofs.GoLaws.{goes-none}
+use Rattle.lt_store.proofs.GroupLaws.{group-open, group-survives, idle-open, after_none, items_in-more, take-whole}
+use Rattle.lt_store.proofs.MomentLaws.{Stays, open-same}
+use Rattle.lt_store.proofs.SameLaws.{same-log}
+
+-- what a kept store says of its view
+pub kept-fits : (v : StoreView) (d : State) (s : told.State) (filters : ℕ) → IsOpen v d s → IsKept v.named v.log v.memory v.taken filters v.writes → Fits v
+kept-fits v d s filters o k =
+    let valid = (and_parts (nat_le 2 v.named.geometry.levels) (nat_le v.named.geometry.levels 5) (and_parts _ (nat_le 1 v.named.geometry.slots) (and_parts _ (nat_le v.named.geometry.slots 512) k.manifest.geometry).0).0).0 in
+    record {
+      geometry = k.geometry;
+      area = k.area;
+      start = k.start;
+      area_small = k.manifest.log_area;
+      pile = sym (root-named v.named.geometry.levels v.named.manifest.header.extents v.named.manifest.trie (leb-true _ _ valid) k.manifest.trie o.root_only.only);
+    }
+
+-- each image has the groups
+pub open-logs : (v : StoreView) (d : State) (s : told.State) (o : IsOpen v d s) → Fits v → (left : _) → MayLeave s left → HasLog v.log.geometry v.log.area v.log.writes o.groups left
+open-logs v d s o f left may =
+    let at = subst (λ k. HasLog v.named.geometry k v.log.writes o.groups o.rest.image) f.area o.log in
+    let there = same-log v.named o.rest.image left v.log.writes o.groups (open-same v d s o left may) at in
+    subst (λ g. HasLog g v.log.area v.log.writes o.groups left) (sym f.geometry) (subst (λ k. HasLog v.named.geometry k v.log.writes o.groups left) (sym f.area) there)
+
+-- the log with the open group fits
+pub group-fits : (v : StoreView) (d : State) (s : told.State) (filters : ℕ) (o : IsOpen v d s) → IsKept v.named v.log v.memory v.taken filters v.writes → IsTrue (log_fits v.log.writes (items_in (o.groups ++ v.log.pending ∷ [])))
+group-fits v d s filters o k =
+    subst (λ xs. IsTrue (log_fits v.log.writes xs)) (o.memory ∙ sym (items_in-more o.groups v.log.pending)) (subst (λ w. IsTrue (log_fits w v.memory)) (sym k.start) k.fits)
+
+module _ (v : StoreView) (d : State) (filters : ℕ) (old new : told.State) (k : IsKept v.named v.log v.memory v.taken filters v.writes) (o : IsOpen v d old) (any : AnyMoment v.log old new) (inside : ConfinedTo (InSlot v.log.geometry v.log.area v.log.slots) old new) where
+
+  -- nothing is lost at any moment
+  pub commit-survives : 0 < length v.log.pending → Survives v [] d old new
+  commit-survives some =
+      let f = kept-fits v d old filters o k in
+      group-survives v d old new o f (k.slot some) (any o.groups (sym o.slots) (group-fits v d old filters o k) (open-logs v d old o f)) inside
+
+  pub commit-goes : Committed v.log old new → 0 < length v.log.pending → UnsyncedIn (λ _. ⊥) new → Goes v [] (committed v) d old new
+  commit-goes done some sure =
+      let f = kept-fits v d old filters o k in
+      let p : List Item = v.log.pending in
+      let run = any o.groups (sym o.slots) (group-fits v d old filters o k) (open-logs v d old o f) in
+      record {
+        sure = length p;
+        within = let n : length (p ++ []) ≡ length p = ap length (append-nil p) in omega arith;
+        pending = sym (dropped p);
+        opened = subst (λ xs. IsOpen (committed v) (after_writes d xs) new) (sym (take-whole p))
+            (group-open v d old new o f (k.slot some) run inside (done o.groups (sym o.slots) (group-fits v d old filters o k) (open-logs v d old o f)) sure);
+        survives = group-survives v d old new o f (k.slot some) run inside;
+      }
+    where
+      dropped : (xs : List Item) → drop (length xs) (xs ++ []) ≡ []
+      dropped [] = refl
+      dropped (x ∷ xs) = dropped xs
+
+-- with nothing pending the store stays as it is
+pub idle-goes : (v : StoreView) (d : State) (s : told.State) → v.log.pending ≡ [] → IsOpen v d s → Goes v [] (committed v) d s s
+idle-goes v d s idle o =
+    let g = goes-none v d s o in
+    record {
+      sure = 0;
+      within = omega arith;
+      pending = sym idle ∙ sym (append-nil v.log.pending);
+      opened = subst (λ e. IsOpen (committed v) e s) (ap (after_writes d) idle) (idle-open v d s idle o);
+      survives = g.survives;
+    }
+
+-- either of both
+pub commit-any : (v : StoreView) (d : State) (filters : ℕ) (old new : told.State) → IsKept v.named v.log v.memory v.taken filters v.writes → IsOpen v d old → AnyMoment v.log old new → ConfinedTo (InSlot v.log.geometry v.log.area v.log.slots) old new
+    → Committed v.log old new → (0 < length v.log.pending → UnsyncedIn (λ _. ⊥) new) → (v.log.pending ≡ [] → new ≡ old) → Goes v [] (committed v) d old new
+commit-any v d filters old new k o any inside done sure idle = decide v.log.pending refl
+  where
+    decide : (p : List Item) → v.log.pending ≡ p → Goes v [] (committed v) d old new
+    decide [] is = subst (λ s. Goes v [] (committed v) d old s) (sym (idle is)) (idle-goes v d old is o)
+    decide (x ∷ xs) is = let some : 0 < length v.log.pending = omega (arith, ap length is) in commit-goes v d filters old new k o any inside done some (sure some)
+
+pub commit-breaks : (v : StoreView) (d : State) (filters : ℕ) (old new : told.State) → IsKept v.named v.log v.memory v.taken filters v.writes → IsOpen v d old → AnyMoment v.log old new → ConfinedTo (InSlot v.log.geometry v.log.area v.log.slots) old new
+    → (v.log.pending ≡ [] → new ≡ old) → Survives v [] d old new
+commit-breaks v d filters old new k o any inside idle = decide v.log.pending refl
+  where
+    decide : (p : List Item) → v.log.pending ≡ p → Survives v [] d old new
+    decide [] is = subst (λ s. Survives v [] d old s) (sym (idle is)) (goes-none v d old o).survives
+    decide (x ∷ xs) is = let some : 0 < length v.log.pending = omega (arith, ap length is) in commit-survives v d filters old new k o any inside some
+
+-- the facts in memory after a commit
+pub commit-kept : (n : Named) (log : LogState) (memory : List Item) (taken : List Bool) (filters writes : ℕ) → IsKept n log memory taken filters writes → IsKept n (committed_log log) memory taken filters writes
+commit-kept n log memory taken filters writes k =
+    record {
+      manifest = k.manifest;
+      geometry = k.geometry;
+      area = k.area;
+      start = k.start;
+      items = sym (all memory) ∙ sym (append-nil _);
+      fits = k.fits;
+      number = k.number;
+      enough = slots log.pending refl;
+      within = inside log.pending refl;
+      slot = λ some. absurd (omega arith);
+      room = omega arith;
+      extents = k.extents;
+      free = k.free;
+      filters_len = k.filters_len;
+    }
+  where
+    whole : (xs : List Item) → take (length xs) xs ≡ xs
+    whole [] = refl
+    whole (x ∷ xs) = ap (λ ys. x ∷ ys) (whole xs)
+    all : (xs : List Item) → take (length xs - 0) xs ≡ xs
+    all xs = let n : length xs - 0 ≡ length xs = omega arith in ap (λ k. take k xs) n ∙ whole xs
+    slots : (p : List Item) → log.pending ≡ p → slots_with log.slots log.pending ≤ length memory - 0
+    slots [] is = let none : slots_with log.slots log.pending ≡ log.slots = ap (slots_with log.slots) is in let e = k.enough in omega (arith, none, e)
+    slots (x ∷ xs) is =
+        let some : slots_with log.slots log.pending ≡ log.slots + 1 = ap (slots_with log.slots) is in
+        let size : length log.pending ≡ length (x ∷ xs) = ap length is in
+        let e = k.enough in
+        let count : length memory ≡ length (logged log memory) + length log.pending = ap length k.items ∙ length-append (logged log memory) log.pending in
+        omega (arith, some, e, size, count)
+    inside : (p : List Item) → log.pending ≡ p → slots_with log.slots log.pending ≤ n.geometry.slots
+    inside [] is = let none : slots_with log.slots log.pending ≡ log.slots = ap (slots_with log.slots) is in let w = k.within in omega (arith, none, w)
+    inside (x ∷ xs) is =
+        let some : slots_with log.slots log.pending ≡ log.slots + 1 = ap (slots_with log.slots) is in
+        let size : length log.pending ≡ length (x ∷ xs) = ap length is in
+        let slot : log.slots < n.geometry.slots = k.slot (omega (arith, size)) in
+        omega (arith, some, slot)

@@ -1,0 +1,264 @@
+-- The steps of a flush: the other log area is cleared, tables are built, and the manifest is committed.
+use Rattle.std.proofs.Common.{◌≡◌, ◌⊎◌, inl, inr, ⊎_elim, ℕ, ◌+◌, ◌-◌, ◌*◌, ◌/◌, ◌<◌, ◌≤◌, refl, sym, ap, subst, ◌∙◌, Bool, true, false, List, [], ◌∷◌, ◌++◌, length, Option, Some, None, Result, Ok, arith, append-nil}
+use Rattle.std.specs.Prelude.{IsTrue, slice_index_or}
+use Rattle.std.specs.List.{AllByRecursion, AllZip}
+use Rattle.lt_terms.specs.Bytes.{Image, block_at}
+use Rattle.lt_terms.specs.Items.{Item}
+use Rattle.lt_device.specs.Image.{SameOutside}
+use Rattle.lt_device.specs.State as told
+use Rattle.lt_device.specs.Moments.{MayLeave, Leaves, ShownNow, ConfinedTo, UnsyncedIn}
+use Rattle.lt_device.proofs.Images.{same_outside_joins, same_outside_widens}
+use Rattle.lt_device.proofs.Runs.{weakens, both}
+use Rattle.lt_language.specs.Machine.{State}
+use Rattle.lt_tables.specs.Cut.{cut}
+use Rattle.lt_tables.specs.Filter.{is_in}
+use Rattle.lt_tables.specs.Merge.{newest}
+use Rattle.lt_format.specs.declared.geometry.Geometry.{Geometry}
+use Rattle.lt_format.specs.declared.header.Header.{Header}
+use Rattle.lt_format.specs.Layout.{extent_block, log_gate}
+use Rattle.lt_format.specs.Log.{items_in}
+use Rattle.lt_format.specs.Naming.{Named, InManifest, manifest_of, after_commit}
+use Rattle.lt_format.specs.Snapshot.{Manifest}
+use Rattle.lt_format.specs.Trie.{named, root, node_at, all_below}
+use Rattle.lt_format.specs.Changes.{flush, after_change}
+use Rattle.lt_manifest.specs.Moments.{Names, HasNew, HasOldOrNew}
+use Rattle.lt_redo.specs.LogState.{LogState, other_area}
+use Rattle.lt_redo.specs.Slots.{HasLog, InLogArea}
+use Rattle.lt_redo.proofs.AreaLaws.{has_log-local}
+use Rattle.lt_image.specs.After.{SameExtent, SameExtents, SameNamed, Follows, Flushes, PlacedIn}
+use Rattle.lt_image.specs.Opening.{Opened, open_image, number_of, log_items}
+use Rattle.lt_image.specs.OnPath.{has_only_root}
+use Rattle.lt_image.specs.Soundness.{bad_blocks}
+use Rattle.lt_image.specs.Standing.{Stands, is_free_block}
+use Rattle.lt_image.proofs.CountLaws.{flushes}
+use Rattle.lt_image.proofs.LocalLaws.{local-stands}
+use Rattle.lt_image.proofs.OpenLaws.{is-opens}
+use Rattle.lt_image.proofs.RootLaws.{root-flush, root-tables}
+use Rattle.lt_image.proofs.StandLaws.{flush-stands}
+use Rattle.lt_store.specs.Building.{InExtents, KeepsFilter}
+use Rattle.lt_store.specs.Open.{IsOpen, IsRootOnly, StoreView, root_pile}
+use Rattle.lt_store.proofs.SameLaws.{Same, same-other, same-unnamed, same-names}
+use Rattle.lt_image.specs.Versions.{extent_in as extent_at}
+use Rattle.lt_tables.specs.Table.{IsPlaced}
+use Rattle.lt_store.proofs.MomentLaws.{Stays, IsReady, IsSteady, open-steady, open-names, open-ready, open-agrees, open-same, open-from, keeps-same, same-stays, same-ready, sure-agrees}
+
+-- what a store in memory says of its view, whatever the device holds
+pub record Fits (v : StoreView) : Type 0 where
+  pub geometry : v.log.geometry ≡ v.named.geometry
+  pub area : v.log.area ≡ v.named.manifest.header.log_area
+  pub start : v.log.writes ≡ v.named.manifest.header.writes
+  pub area_small : v.named.manifest.header.log_area < 2
+  pub pile : root_pile v.named.manifest.trie ≡ named v.named.manifest.trie
+
+same_outside_apart : (inside : ℕ → Type 0) (a b c : Image) → SameOutside inside a b → SameOutside inside a c → SameOutside inside b c
+same_outside_apart inside a b c one two = record { size = two.size ∙ sym one.size; others = λ k out. two.others k out ∙ sym (one.others k out) }
+
+-- ---- the other log area
+
+abbrev pub cleared : StoreView → StoreView
+cleared v = record v { log = record v.log { cleared = true } }
+
+-- clearing the other log area keeps what the images stand for
+pub clearing-stays : (v : StoreView) (d : State) (old new : told.State) (o : IsOpen v d old) → Fits v → ConfinedTo (InLogArea v.log.geometry (other_area v.log.area)) old new → Leaves (λ left. Same v.named o.rest.image left) old new
+clearing-stays v d old new o fits run =
+    let run' = subst (λ g. ConfinedTo (InLogArea g (other_area v.log.area)) old new) fits.geometry run in
+    let run'' = subst (λ k. ConfinedTo (InLogArea v.named.geometry (other_area k)) old new) fits.area run' in
+    keeps-same v d (InLogArea v.named.geometry (other_area v.named.manifest.header.log_area)) old new o run'' (λ a b names same. same-other v.named a b fits.area_small same)
+
+-- and once it is sure the store is open as before
+pub cleared-open : (v : StoreView) (d : State) (old new : told.State) (o : IsOpen v d old) → Fits v → ConfinedTo (InLogArea v.log.geometry (other_area v.log.area)) old new → UnsyncedIn (λ _. ⊥) new → IsOpen (cleared v) d new
+cleared-open v d old new o fits run sure =
+    let same = clearing-stays v d old new o fits run in
+    let now : ShownNow new = same.shows o.rest.image o.rest.shown o.rest.tells in
+    let ready : IsReady v d o.groups now.image = same-ready v d o.groups o.rest.image now.image fits.area fits.pile (same.now now.image now.tells) (open-ready v d old o) in
+    let steady = open-steady v d old o in
+    open-from (cleared v) d new o.groups now (record { slots = steady.slots; memory = steady.memory; root_only = steady.root_only }) (record { names = ready.names; stands = ready.stands; log = ready.log; filters = ready.filters })
+    (sure-agrees (λ n. IsTrue (is_free_block v.named n)) new now sure)
+
+-- ---- tables in free extents
+
+-- these extents are the store's, and none is named
+pub record AreFree (m : Named) (numbers : List ℕ) : Type 0 where
+  pub below : (x : ℕ) → is_in x numbers ≡ true → x < m.manifest.header.extents
+  pub unnamed : (x : ℕ) → is_in x numbers ≡ true → is_in x (named m.manifest.trie) ≡ false
+
+free-block : (m : Named) (numbers : List ℕ) → AreFree m numbers → (n : ℕ) → InExtents m.geometry numbers n → IsTrue (is_free_block m n)
+free-block m numbers free n inside =
+    let below : inside.number < m.manifest.header.extents = free.below inside.number inside.among in
+    let from = inside.from in
+    let to = inside.to in
+    let at : (n - extent_block m.geometry 0) / 65 ≡ inside.number = omega arith in
+    let low : extent_block m.geometry 0 ≤ n = omega arith in
+    let unnamed : is_in ((n - extent_block m.geometry 0) / 65) (named m.manifest.trie) ≡ false = ap (λ x. is_in x (named m.manifest.trie)) at ∙ free.unnamed inside.number inside.among in
+    let small : (n - extent_block m.geometry 0) / 65 < m.manifest.header.extents = omega arith in
+    rw unnamed (grind arith)
+
+-- the filters of other extents are kept
+abbrev pub KeepsOthers : List ℕ → List (Option (List ℕ)) → List (Option (List ℕ)) → Type 0
+KeepsOthers numbers old new = (x : ℕ) → is_in x numbers ≡ false → slice_index_or new x None ≡ slice_index_or old x None
+
+kept-filters : (g : Geometry) (numbers : List ℕ) (old new : List (Option (List ℕ))) (image : Image) (all xs : List ℕ) → KeepsOthers numbers old new → ((x : ℕ) → is_in x numbers ≡ true → is_in x all ≡ false) → ((x : ℕ) → is_in x xs ≡ true → is_in x all ≡ true)
+    → AllByRecursion (KeepsFilter g old image) xs → AllByRecursion (KeepsFilter g new image) xs
+kept-filters g numbers old new image all [] others apart sub kept = tt
+kept-filters g numbers old new image all (x ∷ xs) others apart sub kept =
+    (others x (not_in x (sub x (first x xs))) ∙ kept.0, kept-filters g numbers old new image all xs others apart (λ y there. sub y (behind y x xs there)) kept.1)
+  where
+    first : (x : ℕ) (xs : List ℕ) → is_in x (x ∷ xs) ≡ true
+    first x xs = grind arith
+    behind : (y x : ℕ) (xs : List ℕ) → is_in y xs ≡ true → is_in y (x ∷ xs) ≡ true
+    behind y x xs there = grind arith
+    not_in : (x : ℕ) → is_in x all ≡ true → is_in x numbers ≡ false
+    not_in x there = decide (is_in x numbers) refl
+      where
+        decide : (b : Bool) → is_in x numbers ≡ b → is_in x numbers ≡ false
+        decide true is = absurd (let no : true ≡ false = sym there ∙ apart x is in cc)
+        decide false is = is
+
+abbrev pub with_kept : StoreView → List (Option (List ℕ)) → StoreView
+with_kept v kept = record v { kept = kept }
+
+pub building-stays : (v : StoreView) (d : State) (numbers : List ℕ) (old new : told.State) (o : IsOpen v d old) → Fits v → AreFree v.named numbers → ConfinedTo (InExtents v.named.geometry numbers) old new → Leaves (λ left. Same v.named o.rest.image left) old new
+building-stays v d numbers old new o fits free run = keeps-same v d (InExtents v.named.geometry numbers) old new o run (λ a b names same. same-unnamed v.named numbers a b fits.area_small free.unnamed same)
+
+-- whatever was written there, the store is open as before
+pub built-open : (v : StoreView) (d : State) (numbers : List ℕ) (kept : List (Option (List ℕ))) (old new : told.State) (o : IsOpen v d old) → Fits v → AreFree v.named numbers → KeepsOthers numbers v.kept kept → ConfinedTo (InExtents v.named.geometry numbers) old new → IsOpen (with_kept v kept) d new
+built-open v d numbers kept old new o fits free others run =
+    let free_blocks : ℕ → Type 0 = λ n. IsTrue (is_free_block v.named n) in
+    let base : Image = o.rest.image in
+    let same = building-stays v d numbers old new o fits free run in
+    let now : ShownNow new = same.shows base o.rest.shown o.rest.tells in
+    let ready : IsReady v d o.groups now.image = same-ready v d o.groups base now.image fits.area fits.pile (same.now now.image now.tells) (open-ready v d old o) in
+    let near = λ (left : Image) (may : MayLeave new left).
+        let n = run.now left may in
+        same_outside_widens _ free_blocks base left (λ k either. ⊎_elim (λ f. f) (free-block v.named numbers free k) either) (same_outside_joins free_blocks (InExtents v.named.geometry numbers) base n.image left (open-agrees v d old o n.image n.was) n.same) in
+    let steady = open-steady v d old o in
+    open-from (with_kept v kept) d new o.groups now (record { slots = steady.slots; memory = steady.memory; root_only = steady.root_only })
+    (record {
+      names = ready.names;
+      stands = ready.stands;
+      log = ready.log;
+      filters = kept-filters v.named.geometry numbers v.kept kept now.image (named v.named.manifest.trie) (root_pile v.named.manifest.trie) others free.unnamed (λ x there. subst (λ xs. is_in x xs ≡ true) fits.pile there) ready.filters;
+    })
+    (λ left may. same_outside_apart free_blocks base now.image left (near now.image now.tells) (near left may))
+
+-- ---- the manifest
+
+pub stands-sound : (image : Image) (d : State) (o : Opened) → open_image image ≡ Ok o → Stands image d → bad_blocks o image ≡ []
+stands-sound image d o opens stands =
+    let both_open : ◌≡◌ {A = Result Opened ℕ} (Ok stands.opened) (Ok o) = sym stands.opens ∙ opens in
+    let is : stands.opened ≡ o = cc in
+    subst (λ (o : Opened). bad_blocks o image ≡ []) is stands.sound
+
+pub each_all : (P : ℕ → Type 0) (xs : List ℕ) → ((x : ℕ) → P x) → AllByRecursion P xs
+each_all P [] each = tt
+each_all P (x ∷ xs) each = (each x, each_all P xs each)
+
+-- all behind the manifest's blocks is the same
+behind-manifest : (a b : Image) → SameOutside InManifest a b → (n : ℕ) → 868 ≤ n → block_at b n ≡ block_at a n
+behind-manifest a b same n high = same.others n (λ inside. absurd (let to = inside.1 in omega arith))
+
+behind-extents : (g : Geometry) (a b : Image) → SameOutside InManifest a b → (x c : ℕ) → block_at b (extent_block g x + c) ≡ block_at a (extent_block g x + c)
+behind-extents g a b same x c = behind-manifest a b same (extent_block g x + c) (omega arith)
+
+same_named : (m : Named) (a b : Image) → SameOutside InManifest a b → SameNamed m a b
+same_named m a b same = record {
+  log = λ n low high. behind-manifest a b same n (omega arith);
+  kept = each_all (SameExtent m.geometry a b) (named m.manifest.trie) (λ x c small. behind-extents m.geometry a b same x c);
+}
+
+all-append : (P : ℕ → Type 0) (xs ys : List ℕ) → AllByRecursion P xs → AllByRecursion P ys → AllByRecursion P (xs ++ ys)
+all-append P [] ys one two = two
+all-append P (x ∷ xs) ys one two = (one.0, all-append P xs ys one.1 two)
+
+abbrev pub flushed_log : LogState → Header → LogState
+flushed_log log header = record { geometry = log.geometry; area = other_area log.area; writes = header.writes; slots = 0; pending = []; cleared = false }
+
+-- the store after a flush
+abbrev pub flushed : StoreView → Named → Header → StoreView
+flushed v n header = record v { named = n; log = flushed_log v.log header; memory = [] }
+
+module _ (v : StoreView) (d : State) (old new : told.State) (o : IsOpen v d old) (fits : Fits v) (numbers : List ℕ) (header : Header)
+    (idle : v.log.pending ≡ []) (other : header.log_area ≡ other_area v.named.manifest.header.log_area) (writes : header.writes ≡ v.named.manifest.header.writes + length v.memory)
+    (clear : HasLog v.named.geometry (other_area v.named.manifest.header.log_area) header.writes [] o.rest.image)
+    (placed : PlacedIn v.named.geometry o.rest.image numbers (cut (newest v.memory))) where
+
+  after : Manifest
+  after = after_commit v.named.manifest (flush numbers) header
+
+  memory_is : v.memory ≡ items_in o.groups
+  memory_is = o.memory ∙ ap (λ xs. items_in o.groups ++ xs) idle ∙ append-nil (items_in o.groups)
+
+  before : Opened
+  before = record { named = v.named; groups = o.groups }
+
+  opens_before : open_image o.rest.image ≡ Ok (record { named = v.named; groups = o.groups })
+  opens_before =
+      let log = subst (λ k. HasLog v.named.geometry k v.log.writes o.groups o.rest.image) fits.area o.log in
+      let log' = subst (λ w. HasLog v.named.geometry v.named.manifest.header.log_area w o.groups o.rest.image) fits.start log in
+      is-opens o.rest.image (record { named = v.named; groups = o.groups }) (open-names v d old o).read log'.read
+
+  -- an image with the new manifest, behind which all is as it was shown
+  pub new-stands : (area : ℕ) (left : Image) → HasNew (record { geometry = v.named.geometry; area = area; manifest = after_commit v.named.manifest (flush numbers) header }) o.rest.image left → Stands left d
+  new-stands area left has =
+      let shown : Image = o.rest.image in
+      let g : Geometry = v.named.geometry in
+      let n : Named = record { geometry = g; area = area; manifest = after_commit v.named.manifest (flush numbers) header } in
+      let p : Opened = record { named = n; groups = [] } in
+      let b : Opened = record { named = v.named; groups = o.groups } in
+      let log : HasLog g (other_area v.named.manifest.header.log_area) header.writes [] left = has_log-local g (other_area v.named.manifest.header.log_area) header.writes [] shown left (λ k inside. behind-manifest shown left has.same k (let from = inside.0 in omega arith)) clear in
+      let log' : HasLog g header.log_area header.writes [] left = subst (λ k. HasLog g k header.writes [] left) (sym other) log in
+      let opens : open_image left ≡ Ok p = is-opens left p has.names.read log'.read in
+      let extents : ◌≡◌ {A = ℕ → ℕ → List ℕ} (extent_at g shown) (extent_at g left) = λ i x c. sym (behind-extents g shown left has.same x c) i in
+      let placed_there : PlacedIn g left numbers (cut (newest v.memory)) = subst (λ (f : ℕ → ℕ → List ℕ). AllZip (λ x items. IsPlaced items (f x)) numbers (cut (newest v.memory))) extents placed in
+      let placed_log : PlacedIn g left numbers (cut (newest (log_items b))) = subst (λ xs. PlacedIn g left numbers (cut (newest xs))) memory_is placed_there in
+      let follows : Follows b p shown left (flush numbers) = record { geometry = refl; trie = refl; kept = (same_named v.named shown left has.same).kept } in
+      let count : header.writes ≡ v.named.manifest.header.writes + length (items_in o.groups) = writes ∙ ap (λ xs. v.named.manifest.header.writes + length xs) memory_is in
+      let number : number_of p ≡ number_of b = omega (arith, count) in
+      let stands = o.rest.each shown o.rest.tells in
+      flush-stands shown left b p numbers d opens_before opens stands
+      (flushes shown left b p numbers opens_before (stands-sound shown d b opens_before stands) follows placed_log refl number) number
+
+  -- an image with the manifest as it was
+  pub old-stands : (image left : Image) → MayLeave old image → SameOutside InManifest image left → Names v.named left → Stands left d
+  old-stands image left may same names =
+      local-stands image left v.named d (same-names-at image may) names.read (same_named v.named image left same) (o.rest.each image may)
+    where
+      same-names-at : (image : Image) → MayLeave old image → manifest_of image ≡ Ok v.named
+      same-names-at image may = (same-names v.named o.rest.image image (open-same v d old o image may) (open-names v d old o)).read
+
+  pub commit-stays : Leaves (HasOldOrNew v.named (after_commit v.named.manifest (flush numbers) header) o.rest.image) old new → ConfinedTo InManifest old new → Stays d old new
+  commit-stays run inside = weakens (both run inside) (λ left has. ⊎_elim
+      (λ names. old-stands has.1.image left has.1.was has.1.same names)
+      (λ there. new-stands there.0 left there.1)
+      has.0.either)
+
+  commit_open : (area : ℕ) → Leaves (HasOldOrNew v.named (after_commit v.named.manifest (flush numbers) header) o.rest.image) old new
+      → ((left : Image) → MayLeave new left → HasNew (record { geometry = v.named.geometry; area = area; manifest = after_commit v.named.manifest (flush numbers) header }) o.rest.image left)
+      → UnsyncedIn (λ _. ⊥) new → AllByRecursion (KeepsFilter v.named.geometry v.kept o.rest.image) numbers
+      → IsOpen (flushed v (record { geometry = v.named.geometry; area = area; manifest = after_commit v.named.manifest (flush numbers) header }) header) d new
+  commit_open area run each sure kept =
+      let shown : Image = o.rest.image in
+      let g : Geometry = v.named.geometry in
+      let n : Named = record { geometry = g; area = area; manifest = after_commit v.named.manifest (flush numbers) header } in
+      let now : ShownNow new = run.shows shown o.rest.shown o.rest.tells in
+      let has : HasNew n shown now.image = each now.image now.tells in
+      let log : HasLog g (other_area v.named.manifest.header.log_area) header.writes [] now.image = has_log-local g (other_area v.named.manifest.header.log_area) header.writes [] shown now.image (λ k inside. behind-manifest shown now.image has.same k (let from = inside.0 in omega arith)) clear in
+      let log' : HasLog g (other_area v.log.area) header.writes [] now.image = subst (λ k. HasLog g (other_area k) header.writes [] now.image) (sym fits.area) log in
+      let pile : root_pile n.manifest.trie ≡ root_pile v.named.manifest.trie ++ numbers = root-tables v.named.manifest.trie numbers in
+      let extents : ◌≡◌ {A = ℕ → ℕ → List ℕ} (extent_at g shown) (extent_at g now.image) = λ i x c. sym (behind-extents g shown now.image has.same x c) i in
+      let all = all-append (KeepsFilter g v.kept shown) (root_pile v.named.manifest.trie) numbers o.filters kept in
+      let all' = subst (AllByRecursion (KeepsFilter g v.kept shown)) (sym pile) all in
+      let filters : AllByRecursion (KeepsFilter g v.kept now.image) (root_pile n.manifest.trie) = subst (λ (f : ℕ → ℕ → List ℕ). AllByRecursion (λ x. slice_index_or v.kept x None ≡ Some (f x 64)) (root_pile n.manifest.trie)) extents all' in
+      open-from (flushed v n header) d new [] now
+      (record { slots = refl; memory = refl; root_only = record { only = root-flush v.named.manifest.trie numbers o.root_only.only } })
+      (record { names = has.names; stands = new-stands area now.image has; log = log'; filters = filters })
+      (sure-agrees (λ k. IsTrue (is_free_block n k)) new now sure)
+
+  -- after the commit the store is open on the new manifest
+  pub flushed-open : (n : Named) → n.geometry ≡ v.named.geometry → n.manifest ≡ after_commit v.named.manifest (flush numbers) header
+      → Leaves (HasOldOrNew v.named (after_commit v.named.manifest (flush numbers) header) o.rest.image) old new
+      → ((left : Image) → MayLeave new left → HasNew n o.rest.image left) → UnsyncedIn (λ _. ⊥) new → AllByRecursion (KeepsFilter v.named.geometry v.kept o.rest.image) numbers → IsOpen (flushed v n header) d new
+  flushed-open n geometry manifest run each sure kept =
+      let is : ◌≡◌ {A = Named} n (record { geometry = v.named.geometry; area = n.area; manifest = after_commit v.named.manifest (flush numbers) header }) = λ i. record { geometry = geometry i; area = n.area; manifest = manifest i } in
+      subst (λ (n : Named). IsOpen (flushed v n header) d new) (sym is)
+      (commit_open n.area run (λ left may. subst (λ (n : Named). HasNew n o.rest.image left) is (each left may)) sure kept)

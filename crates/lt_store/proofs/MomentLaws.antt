@@ -1,0 +1,112 @@
+-- An open store from call to call of its device.
+use Rattle.std.proofs.Common.{◌≡◌, ◌≢◌, ◌⊎◌, inl, inr, ⊎_elim, ℕ, zero, suc, ◌+◌, ◌-◌, ◌*◌, ◌/◌, ◌<◌, ◌≤◌, refl, sym, ap, subst, ◌∙◌, Bool, true, false, List, [], ◌∷◌, ◌++◌, length, take, drop, Option, Some, None, Ok, arith, true≢false, append-nil, append_assoc}
+use Rattle.std.specs.Prelude.{IsTrue}
+use Rattle.std.specs.List.{AllByRecursion}
+use Rattle.lt_terms.specs.Bytes.{Image, block_at}
+use Rattle.lt_terms.specs.Items.{Item}
+use Rattle.lt_terms.specs.Maps.{after_items}
+use Rattle.lt_device.specs.Image.{SameOutside}
+use Rattle.lt_device.specs.State as told
+use Rattle.lt_device.specs.Moments.{MayLeave, Leaves, ShownNow, IsNear, ConfinedTo, UnsyncedIn}
+use Rattle.lt_device.proofs.Images.{same_outside_joins, same_outside_widens}
+use Rattle.lt_device.proofs.Runs.{begins, joins, weakens, both, confined_keeps}
+use Rattle.lt_device.proofs.Rest.{unsynced_near}
+use Rattle.lt_language.specs.Machine.{State}
+use Rattle.lt_tables.specs.Filter.{is_in}
+use Rattle.lt_format.specs.declared.geometry.Geometry.{Geometry}
+use Rattle.lt_format.specs.Layout.{extent_block, log_gate}
+use Rattle.lt_format.specs.Log.{items_in}
+use Rattle.lt_format.specs.Naming.{Named, InManifest, manifest_of}
+use Rattle.lt_format.specs.Trie.{named, root, node_at, IsTrie}
+use Rattle.lt_manifest.specs.Moments.{Names}
+use Rattle.lt_redo.specs.Slots.{HasLog}
+use Rattle.lt_image.specs.Standing.{Stands, is_free_block, after_writes, IsPrefix}
+use Rattle.lt_image.specs.OnPath.{has_only_root}
+use Rattle.lt_store.specs.Building.{InExtents, KeepsFilter}
+use Rattle.lt_store.specs.Open.{AtRest, IsOpen, IsRootOnly, StoreView, root_pile}
+use Rattle.lt_store.specs.Going.{Survives, Goes}
+use Rattle.lt_store.proofs.SameLaws.{Same, same-refl, same-trans, same-names, same-stands, same-log, same-filters, same-free}
+
+-- each image stands for the state
+abbrev pub Stays : State → told.State → told.State → Type 0
+Stays d old new = Leaves (λ left. Stands left d) old new
+
+-- what an open store has of one image
+pub record IsReady (v : StoreView) (d : State) (groups : List (List Item)) (image : Image) : Type 0 where
+  pub names : Names v.named image
+  pub stands : Stands image d
+  pub log : HasLog v.named.geometry v.log.area v.log.writes groups image
+  pub filters : AllByRecursion (KeepsFilter v.named.geometry v.kept image) (root_pile v.named.manifest.trie)
+
+-- what it has whatever the device holds
+pub record IsSteady (v : StoreView) (groups : List (List Item)) : Type 0 where
+  pub slots : v.log.slots ≡ length groups
+  pub memory : v.memory ≡ items_in groups ++ v.log.pending
+  pub root_only : IsRootOnly v.named.manifest.trie
+
+pub open-steady : (v : StoreView) (d : State) (s : told.State) (o : IsOpen v d s) → IsSteady v o.groups
+open-steady v d s o = record { slots = o.slots; memory = o.memory; root_only = o.root_only }
+
+pub open-names : (v : StoreView) (d : State) (s : told.State) (o : IsOpen v d s) → Names v.named o.rest.image
+open-names v d s o = subst (λ n. Names n o.rest.image) o.named o.rest.names
+
+pub open-ready : (v : StoreView) (d : State) (s : told.State) (o : IsOpen v d s) → IsReady v d o.groups o.rest.image
+open-ready v d s o = record { names = open-names v d s o; stands = o.rest.each o.rest.image o.rest.tells; log = o.log; filters = o.filters }
+
+-- each image that a crash may leave is the same but for free blocks
+pub open-agrees : (v : StoreView) (d : State) (s : told.State) (o : IsOpen v d s) → (left : Image) → MayLeave s left → SameOutside (λ n. IsTrue (is_free_block v.named n)) o.rest.image left
+open-agrees v d s o left may = subst (λ n. SameOutside (λ k. IsTrue (is_free_block n k)) o.rest.image left) o.named (o.rest.agree left may)
+
+pub open-same : (v : StoreView) (d : State) (s : told.State) (o : IsOpen v d s) → (left : Image) → MayLeave s left → Same v.named o.rest.image left
+open-same v d s o left may = same-free v.named o.rest.image left (open-names v d s o) (open-agrees v d s o left may)
+
+-- a store that is ready on the image that is shown, where all others agree with it
+pub open-from : (v : StoreView) (d : State) (s : told.State) (groups : List (List Item)) (now : ShownNow s) → IsSteady v groups → IsReady v d groups now.image
+    → ((left : Image) → MayLeave s left → SameOutside (λ n. IsTrue (is_free_block v.named n)) now.image left) → IsOpen v d s
+open-from v d s groups now steady ready agree = record {
+  rest = record {
+    image = now.image;
+    shown = now.shown;
+    tells = now.tells;
+    each = λ left may. same-stands v.named now.image left d (same-free v.named now.image left ready.names (agree left may)) ready.names ready.stands;
+    named = v.named;
+    names = ready.names;
+    agree = agree;
+  };
+  named = refl;
+  groups = groups;
+  log = ready.log;
+  slots = steady.slots;
+  memory = steady.memory;
+  filters = ready.filters;
+  root_only = steady.root_only;
+}
+
+-- ---- calls that change nothing that the manifest names
+
+-- each image since agrees with the one that was shown, in all that the manifest names
+pub keeps-same : (v : StoreView) (d : State) (inside : ℕ → Type 0) (old new : told.State) (o : IsOpen v d old) → ConfinedTo inside old new
+    → ((a b : Image) → Names v.named a → SameOutside inside a b → Same v.named a b) → Leaves (λ left. Same v.named o.rest.image left) old new
+keeps-same v d inside old new o run apart =
+    let base : Image = o.rest.image in
+    let names = open-names v d old o in
+    confined_keeps run (begins old (open-same v d old o))
+    (λ image left same so_far. same-trans v.named base image left so_far (apart image left (same-names v.named base image so_far names) same))
+
+pub same-stays : (v : StoreView) (d : State) (old new : told.State) (o : IsOpen v d old) → Leaves (λ left. Same v.named o.rest.image left) old new → Stays d old new
+same-stays v d old new o run =
+    let base : Image = o.rest.image in
+    weakens run (λ left same. same-stands v.named base left d same (open-names v d old o) (o.rest.each base o.rest.tells))
+
+-- what is ready on an image is ready on one that is the same in all that the manifest names
+pub same-ready : (v : StoreView) (d : State) (groups : List (List Item)) (a b : Image) → v.log.area ≡ v.named.manifest.header.log_area → root_pile v.named.manifest.trie ≡ named v.named.manifest.trie → Same v.named a b → IsReady v d groups a → IsReady v d groups b
+same-ready v d groups a b area pile same ready = record {
+  names = same-names v.named a b same ready.names;
+  stands = same-stands v.named a b d same ready.names ready.stands;
+  log = subst (λ k. HasLog v.named.geometry k v.log.writes groups b) (sym area) (same-log v.named a b v.log.writes groups same (subst (λ k. HasLog v.named.geometry k v.log.writes groups a) area ready.log));
+  filters = subst (AllByRecursion (KeepsFilter v.named.geometry v.kept b)) (sym pile) (same-filters v.named v.kept a b same (subst (AllByRecursion (KeepsFilter v.named.geometry v.kept a)) pile ready.filters));
+}
+
+-- once all is sure there is one image alone
+pub sure-agrees : (inside : ℕ → Type 0) (s : told.State) (now : ShownNow s) → UnsyncedIn (λ _. ⊥) s → (left : Image) → MayLeave s left → SameOutside inside now.image left
+sure-agrees inside s now sure left may = same_outside_widens (λ _. ⊥) inside now.image left (λ k none. absurd none) (unsynced_near sure now.image left now.shown may)

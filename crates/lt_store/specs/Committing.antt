@@ -1,0 +1,12 @@
+-- A store whose open group was committed.
+use Rattle.std.specs.Prelude.{[]}
+use Rattle.lt_redo.specs.LogState.{LogState, slots_with}
+use Rattle.lt_store.specs.Open.{StoreView}
+
+-- the log with its open group behind the others
+abbrev pub committed_log : LogState → LogState
+committed_log log = record log { slots = slots_with log.slots log.pending; pending = [] }
+
+-- nothing is pending any more
+abbrev pub committed : StoreView → StoreView
+committed v = record v { log = committed_log v.log }

@@ -1,0 +1,42 @@
+//! Making writes durable.
+
+ghost use Rattle.std.specs.Prelude.{◌≡◌, ◌≤◌, ◌<◌, true, false, [], OnOk, OnErr, IsOk, length};
+ghost use Rattle.lt_terms.specs.Causes.{HasCause};
+ghost use Rattle.lt_language.specs.Machine.{State};
+ghost use Rattle.lt_store.specs.Open.{IsOpen, blocks_of};
+ghost use Rattle.lt_store.specs.Going.{Goes, Survives};
+ghost use Rattle.lt_store.specs.View.{view_of};
+ghost use Rattle.lt_store.specs.Committing.{committed};
+
+use crate::store::Store;
+use lt_device::Device;
+use lt_page::Failed;
+
+impl Store {
+    /// Makes all writes durable. With nothing pending it makes no call of the device. After `Failed` the
+    /// store is opened again.
+    pub fn commit<D: Device>(&mut self, device: &mut D) -> Result<(), Failed>
+        requires up { self.old.is_up ≡ true }
+        requires within { blocks_of (view_of self.old) ≤ D.blocks device.old }
+        ensures ok { OnOk result (view_of self.new ≡ committed (view_of self.old)) }
+        ensures up { OnOk result (self.new.is_up ≡ true) }
+        ensures err { OnErr result (self.new.is_up ≡ false) }
+        ensures idle { self.old.log.pending ≡ [] → (IsOk result × (device.new ≡ device.old)) }
+
+        // All that was pending is durable; and whatever it answers, nothing is lost at any moment.
+        ensures opened { OnOk result ((durable : State) → IsOpen (view_of self.old) durable (D.state device.old) → Goes (view_of self.old) [] (view_of self.new) durable (D.state device.old) (D.state device.new)) }
+        ensures broken { OnErr result ((durable : State) → IsOpen (view_of self.old) durable (D.state device.old) → Survives (view_of self.old) [] durable (D.state device.old) (D.state device.new)) }
+
+        ensures size { D.blocks device.new ≡ D.blocks device.old }
+        ensures count { D.reads device.new ≡ D.reads device.old }
+        ensures cause { HasCause (D.faults device.old) (D.faults device.new) result }
+    {
+        match self.log.commit(device) {
+            Ok(()) => Ok(()),
+            Err(fault) => {
+                self.is_up = false;
+                Err(fault)
+            }
+        }
+    }
+}
