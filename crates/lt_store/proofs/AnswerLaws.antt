@@ -1,10 +1,10 @@
 -- What an open store's image holds, and what a get answers from it.
-use Rattle.std.proofs.Common.{◌≡◌, ℕ, ◌+◌, ◌<◌, ◌≤◌, min, refl, sym, ap, subst, ◌∙◌, List, [], ◌∷◌, ◌++◌, length, take, drop, Bool, true, false, cond, ◌&&◌, Option, Some, None, Result, Ok, Err, append_assoc, arith, leb-true, ltb-true}
-use Rattle.std.specs.Prelude.{IsTrue, IsFalse, slice_index_or, nat_le, nat_lt}
-use Rattle.std.specs.List.{AllByRecursion, flat_map, sum_by, last_or}
+use Rattle.std.proofs.Common.{◌≡◌, ℕ, ◌+◌, ◌*◌, ◌<◌, ◌≤◌, min, refl, sym, ap, subst, ◌∙◌, List, [], ◌∷◌, ◌++◌, length, take, Bool, true, false, cond, Option, Some, None, Result, Ok, Err, append_assoc, arith, leb-true, ltb-true}
+use Rattle.std.specs.Prelude.{IsTrue, IsFalse, nat_le, nat_lt}
+use Rattle.std.specs.List.{AllByRecursion, last_or}
 use Rattle.std.specs.Option.{option_or, option_map_or}
 use Rattle.std.proofs.lemmas.Bool.{and_parts}
-use Rattle.std.proofs.lemmas.List.{take_all, take_at, length-take-le}
+use Rattle.std.proofs.lemmas.List.{take_all, take_at}
 use Rattle.std.proofs.lemmas.List.Sums.{fold-append, sum_by-cons}
 use Rattle.lt_terms.specs.declared.Kind.{Kind}
 use Rattle.lt_terms.specs.declared.Kind.TheVariants.{Put, Delete}
@@ -14,23 +14,24 @@ use Rattle.lt_terms.specs.Items.{Item, is_key, is_valid, value_limit, item_cost,
 use Rattle.lt_terms.specs.Maps.{value_at, applied, after_items, empty_map}
 use Rattle.lt_language.specs.Machine.{State}
 use Rattle.lt_device.specs.State as told
+use Rattle.lt_device.specs.Reads.{CountsAtMost}
 use Rattle.lt_tables.specs.Filter.{covers}
 use Rattle.lt_tables.specs.Merge.{newest, newest_of, value_of, is_put}
 use Rattle.lt_tables.specs.Table.{IsPlaced}
 use Rattle.lt_tables.proofs.RankLaws.{newest_or}
 use Rattle.lt_tables.proofs.NewestLaws.{newest_of-append}
-use Rattle.lt_tables.proofs.ValidLaws.{AllValid, AllValid-append, table_items-valid}
+use Rattle.lt_tables.proofs.ValidLaws.{AllValid, table_items-valid}
 use Rattle.lt_tables.proofs.VersionLaws.{get_versions}
 use Rattle.lt_format.specs.declared.geometry.Geometry.{Geometry}
 use Rattle.lt_format.specs.Log.{log_groups, items_in, group_room}
-use Rattle.lt_format.specs.Naming.{Named, manifest_of}
+use Rattle.lt_format.specs.Naming.{Named}
 use Rattle.lt_format.specs.Layout.{extent_block}
-use Rattle.lt_format.specs.Trie.{Trie, root, node_at, named, all_below, IsTrie}
+use Rattle.lt_format.specs.Trie.{Trie, root, named, all_below, IsTrie}
 use Rattle.lt_format.proofs.ReadLaws.{ok_same}
 use Rattle.lt_htable.specs.declared.faults.LookFault.{LookFault}
 use Rattle.lt_htable.specs.declared.faults.LookFault.TheVariants.{Device, Damaged}
 use Rattle.lt_image.specs.OnPath.{Stop, first_some}
-use Rattle.lt_image.specs.Opening.{Opened, open_image, log_items}
+use Rattle.lt_image.specs.Opening.{Opened, open_image}
 use Rattle.lt_image.specs.Versions.{extent_in, items_at, pile_items, versions}
 use Rattle.lt_image.proofs.MapLaws.{named-tables}
 use Rattle.lt_image.proofs.OpenLaws.{opens-is, opens-well, log_items-valid}
@@ -42,7 +43,7 @@ use Rattle.lt_image.proofs.StandLaws.{StandsAs, stands-as}
 use Rattle.lt_store.specs.declared.getting.Version.{Version}
 use Rattle.lt_store.specs.declared.getting.Version.TheVariants.{Value, Deleted}
 use Rattle.lt_store.specs.Building.{KeepsFilter}
-use Rattle.lt_store.specs.Getting.{Finds, Answers, IsVersion, IsAnswer, IsReadable, may_hold, shown_len, with_value, version_of, page_with, value_len}
+use Rattle.lt_store.specs.Getting.{Finds, Answers, IsVersion, IsAnswer, IsReadable, HoldsKey, asked_from, shown_len, with_value, version_of, page_with, value_len}
 use Rattle.lt_store.specs.Kept.{IsKept}
 use Rattle.lt_store.specs.Open.{StoreView, IsOpen, root_pile, state_of}
 
@@ -120,11 +121,18 @@ readable : (g : Geometry) (kept : List (Option (List ℕ))) (image : Image) (key
     → AllByRecursion (λ x. IsFalse (covers (extent_in g image x 64) (home_column key) key) → newest_of key (items_at g image x) ≡ None) tables
     → AllByRecursion (KeepsFilter g kept image) tables → AllByRecursion (IsReadable g kept image key) tables
 readable g kept image key [] placed skips keeps = tt
-readable g kept image key (x ∷ tables) placed skips keeps =
-    (record { placed = placed.0; skipped = λ missing. skips.0 (subst (λ o. option_map_or (λ page. covers page (home_column key) key) o true ≡ false) keeps.0 missing) },
-    readable g kept image key tables placed.1 skips.1 keeps.1)
+readable g kept image key (x ∷ tables) placed skips keeps = (
+  record { placed = placed.0; skipped = λ missing. skips.0 (subst (λ o. option_map_or (λ page. covers page (home_column key) key) o true ≡ false) keeps.0 missing) },
+  readable g kept image key tables placed.1 skips.1 keeps.1,
+)
 
 -- ---- the image of an open store
+
+same_image : (a b : Image) → Some a ≡ Some b → a ≡ b
+same_image a b h = cc
+
+at_parts : (P : Geometry → List (Option (List ℕ)) → List ℕ → Type 0) (g h : Geometry) (kept filters : List (Option (List ℕ))) (tables pile : List ℕ) → g ≡ h → kept ≡ filters → tables ≡ pile → P g kept tables → P h filters pile
+at_parts P g h kept filters tables pile a b c p = subst (λ xs. P h filters xs) c (subst (λ fs. P h fs tables) b (subst (λ f. P f kept tables) a p))
 
 module _ (v : StoreView) (d : State) (device : told.State) (o : IsOpen v d device) (filters : ℕ) (k : IsKept v.named v.log v.memory v.taken filters v.writes) (key : List ℕ) where
   pub open-image : open_image o.rest.image ≡ Ok (record { named = v.named; groups = o.groups })
@@ -134,9 +142,9 @@ module _ (v : StoreView) (d : State) (device : told.State) (o : IsOpen v d devic
       let is = opens-is image st.opened st.opens in
       let named : st.opened.named ≡ v.named = ok_same st.opened.named v.named (sym is.named ∙ o.rest.names.read ∙ ap Ok o.named) in
       let read : log_groups v.named.geometry image v.named.manifest.header.log_area v.named.manifest.header.writes ≡ Ok st.opened.groups
-          = subst (λ (n : Named). log_groups n.geometry image n.manifest.header.log_area n.manifest.header.writes ≡ Ok st.opened.groups) named is.log in
+      = subst (λ (n : Named). log_groups n.geometry image n.manifest.header.log_area n.manifest.header.writes ≡ Ok st.opened.groups) named is.log in
       let log : log_groups v.named.geometry image v.named.manifest.header.log_area v.named.manifest.header.writes ≡ Ok o.groups
-          = subst (λ a. log_groups v.named.geometry image a v.named.manifest.header.writes ≡ Ok o.groups) k.area (subst (λ w. log_groups v.named.geometry image v.log.area w ≡ Ok o.groups) k.start o.log.read) in
+      = subst (λ a. log_groups v.named.geometry image a v.named.manifest.header.writes ≡ Ok o.groups) k.area (subst (λ w. log_groups v.named.geometry image v.log.area w ≡ Ok o.groups) k.start o.log.read) in
       let groups : st.opened.groups ≡ o.groups = ok_same st.opened.groups o.groups (sym read ∙ log) in
       st.opens ∙ (λ i. Ok (record { named = named i; groups = groups i }))
 
@@ -211,15 +219,26 @@ module _ (v : StoreView) (d : State) (device : told.State) (o : IsOpen v d devic
       → ((image : Image) → device.shown ≡ Some image → AllByRecursion (IsReadable g kept image key) tables → IsAnswer (newest_of key (pile_items g image tables)) result old new)
       → IsAnswer (newest_of key (pile_items v.named.geometry o.rest.image (root_pile v.named.manifest.trie))) result old new
   searched g kept tables result old new geometry filters_are pile_is h =
-      subst (λ xs. AllByRecursion (IsReadable v.named.geometry v.kept o.rest.image key) xs → IsAnswer (newest_of key (pile_items v.named.geometry o.rest.image xs)) result old new) pile_is
-      (subst (λ fs. AllByRecursion (IsReadable v.named.geometry fs o.rest.image key) tables → IsAnswer (newest_of key (pile_items v.named.geometry o.rest.image tables)) result old new) filters_are
-      (subst (λ (f : Geometry). AllByRecursion (IsReadable f kept o.rest.image key) tables → IsAnswer (newest_of key (pile_items f o.rest.image tables)) result old new) geometry (h o.rest.image o.rest.shown)))
-      pile-readable
+      at_parts (λ f fs xs. (image : Image) → device.shown ≡ Some image → AllByRecursion (IsReadable f fs image key) xs → IsAnswer (newest_of key (pile_items f image xs)) result old new)
+      g v.named.geometry kept v.kept tables (root_pile v.named.manifest.trie) geometry filters_are pile_is h o.rest.image o.rest.shown pile-readable
+
+  -- how many tables it asks
+  pub stopped : (g : Geometry) (kept : List (Option (List ℕ))) (tables : List ℕ) (before now : ℕ) → g ≡ v.named.geometry → kept ≡ v.kept → tables ≡ root_pile v.named.manifest.trie
+      → ((image : Image) (j : ℕ) → device.shown ≡ Some image → AllByRecursion (IsReadable g kept image key) tables → HoldsKey g image key tables j → CountsAtMost (2 * asked_from kept key tables j) before now)
+      → (image : Image) (j : ℕ) → device.shown ≡ Some image → HoldsKey v.named.geometry image key (root_pile v.named.manifest.trie) j → CountsAtMost (2 * asked_from v.kept key (root_pile v.named.manifest.trie) j) before now
+  stopped g kept tables before now geometry filters_are pile_is h image j told holds =
+      at_parts (λ f fs xs. (image : Image) (j : ℕ) → device.shown ≡ Some image → AllByRecursion (IsReadable f fs image key) xs → HoldsKey f image key xs j → CountsAtMost (2 * asked_from fs key xs j) before now)
+      g v.named.geometry kept v.kept tables (root_pile v.named.manifest.trie) geometry filters_are pile_is h image j told
+      (subst (λ (i : Image). AllByRecursion (IsReadable v.named.geometry v.kept i key) (root_pile v.named.manifest.trie)) (same_image o.rest.image image (sym o.rest.shown ∙ told)) pile-readable) holds
 
   -- a fault of a search is one of the get
   pub answer-fault : (fault : LookFault) (old new : List ℕ) → IsAnswer (newest_of key (pile_items v.named.geometry o.rest.image (root_pile v.named.manifest.trie))) (Err fault) old new → Answers new (value_at (state_of v d).map key) (Err fault)
   answer-fault Device old new h = tt
   answer-fault (Damaged b) old new h = h
+
+-- no read is no more than any number of them
+pub counts-none : (n a : ℕ) → CountsAtMost n a a
+counts-none n a = record { later = omega arith; at_most = omega arith }
 
 -- ---- the extents of the root's tables lie on the device
 

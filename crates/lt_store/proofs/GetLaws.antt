@@ -1,10 +1,9 @@
 -- What a get finds.
-use Rattle.std.proofs.Common.{◌≡◌, ℕ, refl, sym, ap, ◌∙◌, List, Bool, true, false, cond}
+use Rattle.std.proofs.Common.{◌≡◌, ℕ, ap, List, Bool, true, false, cond}
 use Rattle.lt_terms.specs.declared.Kind.{Kind}
 use Rattle.lt_terms.specs.declared.Kind.TheVariants.{Put, Delete}
 use Rattle.lt_terms.specs.Items.{Item}
 use Rattle.lt_tables.specs.Merge.{is_put}
-use Rattle.lt_store.specs.declared.getting.Version.{Version}
 use Rattle.lt_store.specs.declared.getting.Version.TheVariants.{Value, Deleted}
 use Rattle.lt_store.specs.Getting.{shown_len, with_value, version_of, page_with}
 

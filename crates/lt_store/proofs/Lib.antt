@@ -1,6 +1,7 @@
 pub mod AnswerLaws
 pub mod BuildLaws
 pub mod CommitLaws
+pub mod CountLaws
 pub mod CutLaws
 pub mod FilterLaws
 pub mod FlushLaws

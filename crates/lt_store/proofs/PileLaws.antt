@@ -1,9 +1,10 @@
 -- Asking the tables of a pile one after another, the newest first.
-use Rattle.std.proofs.Common.{◌≡◌, ℕ, zero, suc, ◌+◌, ◌-◌, ◌*◌, ◌<◌, ◌≤◌, min, max, refl, sym, ap, subst, ◌∙◌, List, [], ◌∷◌, ◌++◌, length, get_or, take, drop, Bool, true, false, cond, Option, Some, None, Ok, Err, arith}
-use Rattle.std.specs.Prelude.{IsTrue, count_by}
-use Rattle.std.specs.List.{AllByRecursion, flat_map, sum_by}
+use Rattle.std.proofs.Common.{◌≡◌, ℕ, zero, suc, ◌+◌, ◌-◌, ◌<◌, ◌≤◌, refl, sym, ap, subst, ◌∙◌, List, [], ◌∷◌, length, get_or, take, drop, Bool, true, false, cond, Option, Some, None, Ok, Err, arith, ⊎_elim}
+use Rattle.std.specs.Prelude.{count_by}
+use Rattle.std.specs.List.{AllByRecursion, flat_map}
 use Rattle.std.specs.Option.{is_some}
-use Rattle.std.proofs.lemmas.List.{drop_more, take-append-drop}
+use Rattle.std.proofs.lemmas.List.{drop_more, drop-drop, get_or-drop, length-drop, take-append-drop}
+use Rattle.std.proofs.lemmas.Bool.{cases_lt, true≢false}
 use Rattle.std.proofs.lemmas.List.Concat.{flat_map-append}
 use Rattle.std.proofs.lemmas.List.Sums.{sum_by-cons, sum_by-take-drop}
 use Rattle.lt_terms.specs.Bytes.{Image}
@@ -46,6 +47,27 @@ module _ (held : ℕ → List Item) (key : List ℕ) where
       ∙ newest_of-append key (flat_map held (take j tables)) (flat_map held (drop j tables))
       ∙ ap (newest_or (newest_of key (flat_map held (take j tables)))) found
 
+  none_left : (a b : Option Item) → newest_or a b ≡ None → (a ≡ None) × (b ≡ None)
+  none_left a None h = (h, refl)
+  none_left a (Some v) h = cc
+
+  -- a pile without the key has no table with it
+  none_each : (tables : List ℕ) (j : ℕ) → newest_of key (flat_map held tables) ≡ None → j < length tables → newest_of key (held (get_or tables j 0)) ≡ None
+  none_each [] j none below = absurd (omega arith)
+  none_each (x ∷ tables) zero none below = (none_left _ _ (sym (newest_of-append key (held x) (flat_map held tables)) ∙ none)).0
+  none_each (x ∷ tables) (suc j) none below = none_each tables j (none_left (newest_of key (held x)) _ (sym (newest_of-append key (held x) (flat_map held tables)) ∙ none)).1 (omega arith)
+
+  -- so the table that holds the key stands before those without it
+  pub held-before : (tables : List ℕ) (i j : ℕ) → newest_of key (flat_map held (drop i tables)) ≡ None → j < length tables → is_some (newest_of key (held (get_or tables j 0))) ≡ true → j < i
+  held-before tables i j none below found = ⊎_elim
+      (λ (before : j < i). before)
+      (λ (past : i ≤ j).
+      let there : i + (j - i) ≡ j = omega arith in
+      let within : j - i < length (drop i tables) = omega (arith, length-drop i tables) in
+      let is : newest_of key (held (get_or tables j 0)) ≡ None = ap (λ m. newest_of key (held (get_or tables m 0))) (sym there) ∙ ap (λ x. newest_of key (held x)) (sym (get_or-drop i tables (j - i) 0)) ∙ none_each (drop i tables) (j - i) none within in
+      absurd (true≢false (sym found ∙ ap is_some is)))
+      (cases_lt j i)
+
 -- ---- how many tables are asked
 
 pub count-more : (p : ℕ → Bool) (xs : List ℕ) (j : ℕ) → j < length xs → count_by p (drop j xs) ≡ cond (p (get_or xs j 0)) 1 0 + count_by p (drop (j + 1) xs)
@@ -59,6 +81,12 @@ count-passed p xs j below = omega (arith, count-more p xs j below)
 
 pub count-part : (p : ℕ → Bool) (xs : List ℕ) (j : ℕ) → count_by p (drop j xs) ≤ count_by p xs
 count-part p xs j = let whole = sum_by-take-drop (λ x. cond (p x) 1 0) xs j in omega (arith, whole)
+
+pub count-behind : (p : ℕ → Bool) (xs : List ℕ) (j m : ℕ) → j ≤ m → count_by p (drop m xs) ≤ count_by p (drop j xs)
+count-behind p xs j m before =
+    let there : j + (m - j) ≡ m = omega arith in
+    let is : drop (m - j) (drop j xs) ≡ drop m xs = drop-drop (m - j) j xs ∙ ap (λ n. drop n xs) there in
+    subst (λ ys. count_by p ys ≤ count_by p (drop j xs)) is (count-part p (drop j xs) (m - j))
 
 pub counts-more : (n m k a b c : ℕ) → CountsAtMost n a b → CountsAtMost m b c → n + m ≤ k → CountsAtMost k a c
 counts-more n m k a b c h l within = record {

@@ -1,5 +1,5 @@
 -- What a get finds, and where it looks.
-use Rattle.std.specs.Prelude.{◌≡◌, ℕ, ◌+◌, ◌<◌, Bool, true, false, List, Option, Some, None, Result, Ok, Err, length, take, drop, min, count_by, slice_index_or, IsTrue, if◌then◌else◌}
+use Rattle.std.specs.Prelude.{◌≡◌, ℕ, ◌+◌, ◌<◌, Bool, true, false, List, Option, Some, None, Result, Ok, Err, length, take, drop, min, count_by, slice_index, slice_index_or, IsTrue, if◌then◌else◌}
 use Rattle.std.specs.Option.{option_map_or, is_some}
 use Rattle.lt_terms.specs.Bytes.{Image, block_len}
 use Rattle.lt_terms.specs.Items.{Item}
@@ -45,6 +45,15 @@ may_hold kept key x = option_map_or (λ page. covers page (home_column key) key)
 -- how many tables a get asks at most: none where the memory table has the key
 abbrev pub asked : StoreView → List ℕ → ℕ
 asked v key = if is_some (newest_of key v.memory) then 0 else count_by (may_hold v.kept key) (root_pile v.named.manifest.trie)
+
+-- how many tables of a pile a get asks at most from this place on
+abbrev pub asked_from : List (Option (List ℕ)) → List ℕ → List ℕ → ℕ → ℕ
+asked_from kept key tables j = count_by (may_hold kept key) (drop j tables)
+
+-- the table at this place of a pile has a version of the key
+pub record HoldsKey (g : Geometry) (image : Image) (key : List ℕ) (tables : List ℕ) (j : ℕ) : Type 0 where
+  pub within : j < length tables
+  pub held : IsTrue (is_some (newest_of key (items_at g image (slice_index tables j))))
 
 -- the block is that of a bucket of one of these extents
 pub record IsBucketOf (g : Geometry) (numbers : List ℕ) (block : ℕ) : Type 0 where

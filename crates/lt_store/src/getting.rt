@@ -16,7 +16,7 @@ ghost use Rattle.lt_tables.specs.Table.{blocks_from, IsPlaced};
 ghost use Rattle.lt_format.specs.Layout.{extent_block};
 ghost use Rattle.lt_htable.specs.Reading.{IsNoBucket};
 ghost use Rattle.lt_image.specs.Versions.{pile_items};
-ghost use Rattle.lt_store.specs.Getting.{Answers, KeepsPage, KeepsUnless, IsAnswer, IsBucketOf, IsReadable, asked, may_hold, shown_len, with_value, version_of, page_with, value_len};
+ghost use Rattle.lt_store.specs.Getting.{Answers, KeepsPage, KeepsUnless, IsAnswer, IsBucketOf, IsReadable, HoldsKey, asked, asked_from, may_hold, shown_len, with_value, version_of, page_with, value_len};
 ghost use Rattle.lt_store.specs.Open.{IsOpen, blocks_of, root_pile, state_of};
 ghost use Rattle.lt_store.specs.View.{view_of};
 
@@ -71,6 +71,11 @@ impl Store {
         ensures state { D.state device.new ≡ D.state device.old }
         ensures size { D.blocks device.new ≡ D.blocks device.old }
         ensures count { CountsAtMost (2 * asked (view_of self.old) key.now) (D.reads device.old) (D.reads device.new) }
+
+        // Where a table holds the key, no older one is asked.
+        ensures stops { (durable : State) (image : Image) (j : ℕ) → IsOpen (view_of self.old) durable (D.state device.old) → (D.state device.old).shown ≡ Some image
+            → HoldsKey (view_of self.old).named.geometry image key.now (root_pile (view_of self.old).named.manifest.trie) j
+            → CountsAtMost (2 * asked_from (view_of self.old).kept key.now (root_pile (view_of self.old).named.manifest.trie) j) (D.reads device.old) (D.reads device.new) }
     {
         let version = match self.memory.get(key) {
             Some(item) => Some(show(&item, out)),
@@ -114,6 +119,10 @@ fn search<D: Device>(
     ensures state { D.state device.new ≡ D.state device.old }
     ensures size { D.blocks device.new ≡ D.blocks device.old }
     ensures count { CountsAtMost (2 * count_by (may_hold filters.now key.now) tables.now) (D.reads device.old) (D.reads device.new) }
+    ensures stops { (image : Image) (j : ℕ) → (D.state device.old).shown ≡ Some image
+        → AllByRecursion (IsReadable geometry.now filters.now image key.now) tables.now
+        → HoldsKey geometry.now image key.now tables.now j
+        → CountsAtMost (2 * asked_from filters.now key.now tables.now j) (D.reads device.old) (D.reads device.new) }
 {
     let parts = parts_of(key);
     for i in (0..tables.len()).rev() {

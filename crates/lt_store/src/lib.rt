@@ -3,6 +3,7 @@
 
 mod building;
 mod committing;
+mod counts;
 mod cutting;
 mod faults;
 mod flushing;
@@ -10,5 +11,6 @@ mod getting;
 mod opening;
 mod store;
 
+pub use counts::Stat;
 pub use faults::{InitFault, WriteFault};
 pub use store::Store;

@@ -1,12 +1,11 @@
-use Rattle.std.proofs.Common.{◌≡◌, ℕ, refl, sym, ap, subst, ◌∙◌, Ok, Err, Some, None, List, Option}
+use Rattle.std.proofs.Common.{◌≡◌, ℕ, refl, sym, ap, subst, ◌∙◌, Err, Some, None, List, Option}
 use Rattle.std.specs.Option.{option_map}
 use Rattle.std.proofs.lemmas.Result.{err_from_is_err_and}
 use Rattle.lt_terms.specs.Items.{Item}
 use Rattle.lt_item.specs.Views.{item_of}
 use Rattle.lt_tables.specs.Merge.{newest_of}
 use Rattle.lt_htable.specs.declared.faults.LookFault.TheVariants.{Device, Damaged}
-use Rattle.lt_htable.specs.Reading.{AnswersLook}
-use Rattle.lt_store.specs.Getting.{IsAnswer, IsVersion}
+use Rattle.lt_store.specs.Getting.{IsVersion}
 use Rattle.lt_store.proofs.LookLaws.{looked_up-damaged}
 use Rattle.lt_store.proofs.getting.look_into.Goals as goal
 

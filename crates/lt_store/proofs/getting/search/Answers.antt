@@ -1,14 +1,15 @@
-use Rattle.std.proofs.Common.{◌≡◌, ℕ, ◌+◌, ◌-◌, ◌*◌, ◌<◌, ◌≤◌, refl, sym, ap, subst, ◌∙◌, Bool, true, false, Some, None, Err, List, Option, length, get_or, drop, arith}
+use Rattle.std.proofs.Common.{◌≡◌, ℕ, ◌+◌, ◌-◌, ◌*◌, ◌<◌, ◌≤◌, sym, ap, subst, ◌∙◌, Bool, true, false, None, Err, List, length, get_or, drop, arith}
 use Rattle.std.specs.Prelude.{count_by}
+use Rattle.std.specs.List.{flat_map}
+use Rattle.std.specs.Option.{is_some}
 use Rattle.std.proofs.lemmas.Result.{err_from_is_err_and}
 use Rattle.lt_device.specs.State.{State}
 use Rattle.lt_device.specs.Reads.{CountsAtMost}
-use Rattle.lt_htable.specs.declared.faults.LookFault.{LookFault}
+use Rattle.lt_terms.specs.Items.{Item}
 use Rattle.lt_tables.specs.Merge.{newest, newest_of}
 use Rattle.lt_image.specs.Versions.{items_at, pile_items}
-use Rattle.lt_store.specs.declared.getting.Version.{Version}
 use Rattle.lt_store.specs.Getting.{IsAnswer, IsReadable, may_hold}
-use Rattle.lt_store.proofs.PileLaws.{all_at, placed-at, pile-found, pile-none, pile-skipped, same_page, answer-fault, count-asked, count-passed, count-part, counts-more, counts-fewer}
+use Rattle.lt_store.proofs.PileLaws.{all_at, placed-at, pile-found, pile-none, pile-skipped, same_page, answer-fault, held-before, count-behind, count-asked, count-passed, count-part, counts-more, counts-fewer}
 use Rattle.lt_store.proofs.getting.search.Goals as goal
 
 pub returns-in_err-version-clause-answer : goal.returns-in_err-version-clause-answer
@@ -20,7 +21,7 @@ returns-in_err-version-clause-answer g c = λ image told readable.
     let below : j < length tables = omega arith in
     let fault = err_from_is_err_and c.from_residual.result c.from_residual.ensures.1 in
     let answer = c.in_err-version.ensures.answer image (newest (items_at c.args.geometry.now image (get_or tables j 0))) (ap (λ (s : State). s.shown) so_far.state ∙ told)
-        (placed-at c.args.geometry.now c.args.filters.now image key tables j c.extent-first.result readable below c.extent-first.ensures) in
+    (placed-at c.args.geometry.now c.args.filters.now image key tables j c.extent-first.result readable below c.extent-first.ensures) in
     rw (fault.1, fault.2) (answer-fault (newest_of key (newest (items_at c.args.geometry.now image (get_or tables j 0)))) (newest_of key (pile_items c.args.geometry.now image tables)) _ c.args.out.now c.look_into.new.out
     (subst (λ (page : List ℕ). IsAnswer (newest_of key (newest (items_at c.args.geometry.now image (get_or tables j 0)))) (Err c.in_err-version.field-0.0) page c.look_into.new.out) so_far.out answer))
 
@@ -31,6 +32,36 @@ count_here p tables i a b d some within holds h l =
     let one = count-asked p tables (i - 1) below holds in
     let all : count_by p (drop (i - 1) tables) ≡ 1 + count_by p (drop i tables) = subst (λ n. count_by p (drop (i - 1) tables) ≡ 1 + count_by p (drop n tables)) is one in
     counts-more (2 * count_by p (drop i tables)) 2 (2 * count_by p (drop (i - 1) tables)) a b d h l (omega (arith, all))
+
+-- where a table holds the key, no older one was asked up to here
+stops_here : (held : ℕ → List Item) (key : List ℕ) (p : ℕ → Bool) (tables : List ℕ) (i j a b : ℕ) → newest_of key (flat_map held (drop i tables)) ≡ None → j < length tables → is_some (newest_of key (held (get_or tables j 0))) ≡ true
+    → CountsAtMost (2 * count_by p (drop (i - 1) tables)) a b → CountsAtMost (2 * count_by p (drop j tables)) a b
+stops_here held key p tables i j a b none below found h =
+    let before : j < i = held-before held key tables i j none below found in
+    let fewer = count-behind p tables j (i - 1) (omega arith) in
+    counts-fewer (2 * count_by p (drop (i - 1) tables)) (2 * count_by p (drop j tables)) a b h (omega (arith, fewer))
+
+pub returns-in_err-version-clause-stops : goal.returns-in_err-version-clause-stops
+returns-in_err-version-clause-stops g c = λ image j told readable holds.
+    let p = may_hold c.args.filters.now c.args.key.now in
+    let tables : List ℕ = c.args.tables.now in
+    let key : List ℕ = c.args.key.now in
+    stops_here (items_at c.args.geometry.now image) key p tables c.loop-i.i j _ _ (c.loop-i.invariant.none image told readable) holds.within holds.held
+    (count_here p tables c.loop-i.i _ _ _ c.loop-i-test.true (omega arith) (sym c.may_hold.ensures ∙ c.if-may_hold.true) c.loop-i.invariant.count c.look_into.ensures.count)
+
+pub returns-then-is_some-clause-stops : goal.returns-then-is_some-clause-stops
+returns-then-is_some-clause-stops g c = λ image j told readable holds.
+    let p = may_hold c.args.filters.now c.args.key.now in
+    let tables : List ℕ = c.args.tables.now in
+    let key : List ℕ = c.args.key.now in
+    stops_here (items_at c.args.geometry.now image) key p tables c.loop-i.i j _ _ (c.loop-i.invariant.none image told readable) holds.within holds.held
+    (count_here p tables c.loop-i.i _ _ _ c.loop-i-test.true (omega arith) (sym c.may_hold.ensures ∙ c.if-may_hold.true) c.loop-i.invariant.count c.look_into.ensures.count)
+
+pub returns-clause-stops : goal.returns-clause-stops
+returns-clause-stops g c = λ image j told readable holds.
+    let key : List ℕ = c.args.key.now in
+    let before = held-before (items_at c.args.geometry.now image) key c.args.tables.now c.loop-i.i j (c.loop-i.invariant.none image told readable) holds.within holds.held in
+    absurd (omega (arith, before, c.loop-i-test.false))
 
 pub returns-in_err-version-clause-count : goal.returns-in_err-version-clause-count
 returns-in_err-version-clause-count g c =
@@ -47,7 +78,7 @@ returns-then-is_some-clause-answer g c = λ image told readable.
     let j : ℕ = c.loop-i.i - 1 in
     let below : j < length tables = omega arith in
     let answer = c.in_ok-version.ensures.answer image (newest (items_at c.args.geometry.now image (get_or tables j 0))) (ap (λ (s : State). s.shown) so_far.state ∙ told)
-        (placed-at c.args.geometry.now c.args.filters.now image key tables j c.extent-first.result readable below c.extent-first.ensures) in
+    (placed-at c.args.geometry.now c.args.filters.now image key tables j c.extent-first.result readable below c.extent-first.ensures) in
     pile-found c.args.geometry.now image key tables c.loop-i.i j (omega arith) below (so_far.none image told readable) c.in_ok-version.version c.loop-i.out c.args.out.now c.look_into.new.out so_far.out (sym c.is_some.ensures ∙ c.if-is_some.true) answer
 
 pub returns-then-is_some-clause-count : goal.returns-then-is_some-clause-count
@@ -69,7 +100,7 @@ loop-i-preserved-else-is_some g c =
     record {
       none = λ image told readable.
           let answer = c.in_ok-version.ensures.answer image (newest (items_at c.args.geometry.now image (get_or tables j 0))) (ap (λ (s : State). s.shown) so_far.state ∙ told)
-              (placed-at c.args.geometry.now c.args.filters.now image key tables j c.extent-first.result readable below c.extent-first.ensures) in
+          (placed-at c.args.geometry.now c.args.filters.now image key tables j c.extent-first.result readable below c.extent-first.ensures) in
           pile-none c.args.geometry.now image key tables c.loop-i.i j (omega arith) below (so_far.none image told readable) c.in_ok-version.version c.loop-i.out c.look_into.new.out (sym c.is_some.ensures ∙ c.if-is_some.false) answer;
       out = same_page c.in_ok-version.version c.loop-i.out c.look_into.new.out (sym c.is_some.ensures ∙ c.if-is_some.false) c.in_ok-version.ensures.page ∙ so_far.out;
       state = asked.state ∙ so_far.state;

@@ -1,12 +1,9 @@
-use Rattle.std.proofs.Common.{◌≡◌, ℕ, sym, ap, subst, ◌∙◌, Ok, Err, Some, None, List, vec_len}
+use Rattle.std.proofs.Common.{sym, ap, ◌∙◌, Ok, Err, vec_len}
 use Rattle.std.proofs.lemmas.Result.{err_from_is_err_and}
-use Rattle.std.specs.List.{AllByRecursion}
 use Rattle.lt_item.specs.Views.{item_of}
-use Rattle.lt_format.specs.declared.geometry.Geometry.{Geometry}
-use Rattle.lt_format.specs.Layout.{extent_block}
 use Rattle.lt_format.specs.Trie.{Trie, root, node_at}
 use Rattle.lt_store.specs.View.{view_of}
-use Rattle.lt_store.proofs.AnswerLaws.{answer-memory, answer-pile, answer-fault, searched, tables-within}
+use Rattle.lt_store.proofs.AnswerLaws.{answer-memory, answer-pile, answer-fault, searched, stopped, counts-none, tables-within}
 use Rattle.lt_store.proofs.store.Store.get.Goals as goal
 use Rattle.lt_store.proofs.store.Store.get.Goals.{in-Some, in-None+in_ok-version-in-None}
 
@@ -31,12 +28,31 @@ returns-clause-answer g c = λ durable opened.
     let s = c.args.self.now in
     let k = s.kept c.requires.up in
     elim c.match-get.branch [
-      in-Some w ↦
-        let at = answer-memory (view_of s) durable (g.D.Device.state c.args.device.now) opened (vec_len s.filters) k c.args.key.now (item_of w.in-Some.item) w.show.result c.args.out.now w.show.new.out (sym w.in-Some.ensures) (w.show.ensures.version, w.show.ensures.page) in
-        rw (w.out-is, c.value_len.ensures, w.version-is) at
-    | in-None+in_ok-version-in-None w ↦
-        let tables_are = w.pile-tables.ensures ∙ ap (λ (t : Trie). (node_at t root).tables) w.trie.ensures.nodes in
-        let answer = searched (view_of s) durable (g.D.Device.state c.args.device.now) opened (vec_len s.filters) k c.args.key.now s.geometry w.deref.result.now w.pile-tables.result.now (Ok w.in_ok-version-in-None.version) c.args.out.now w.search.new.out s.geometry_is w.deref.ensures.value tables_are w.in_ok-version-in-None.ensures.answer in
-        let at = answer-pile (view_of s) durable (g.D.Device.state c.args.device.now) opened (vec_len s.filters) k c.args.key.now w.in_ok-version-in-None.version c.args.out.now w.search.new.out (sym w.in-None.ensures) answer in
-        rw (w.out-is, c.value_len.ensures, w.version-is) at
+      | in-Some w ↦
+          let at = answer-memory (view_of s) durable (g.D.Device.state c.args.device.now) opened (vec_len s.filters) k c.args.key.now (item_of w.in-Some.item) w.show.result c.args.out.now w.show.new.out (sym w.in-Some.ensures) (w.show.ensures.version, w.show.ensures.page) in
+          rw (w.out-is, c.value_len.ensures, w.version-is) at
+      | in-None+in_ok-version-in-None w ↦
+          let tables_are = w.pile-tables.ensures ∙ ap (λ (t : Trie). (node_at t root).tables) w.trie.ensures.nodes in
+          let answer = searched (view_of s) durable (g.D.Device.state c.args.device.now) opened (vec_len s.filters) k c.args.key.now s.geometry w.deref.result.now w.pile-tables.result.now (Ok w.in_ok-version-in-None.version) c.args.out.now w.search.new.out s.geometry_is w.deref.ensures.value tables_are w.in_ok-version-in-None.ensures.answer in
+          let at = answer-pile (view_of s) durable (g.D.Device.state c.args.device.now) opened (vec_len s.filters) k c.args.key.now w.in_ok-version-in-None.version c.args.out.now w.search.new.out (sym w.in-None.ensures) answer in
+          rw (w.out-is, c.value_len.ensures, w.version-is) at
+    ]
+
+pub returns-in_err-version-in-None-clause-stops : goal.returns-in_err-version-in-None-clause-stops
+returns-in_err-version-in-None-clause-stops g c = λ durable image j opened told holds.
+    let s = c.args.self.now in
+    let k = s.kept c.requires.up in
+    let tables_are = c.pile-tables.ensures ∙ ap (λ (t : Trie). (node_at t root).tables) c.trie.ensures.nodes in
+    stopped (view_of s) durable (g.D.Device.state c.args.device.now) opened (vec_len s.filters) k c.args.key.now s.geometry c.deref.result.now c.pile-tables.result.now _ _ s.geometry_is c.deref.ensures.value tables_are c.search.ensures.stops image j told holds
+
+pub returns-clause-stops : goal.returns-clause-stops
+returns-clause-stops g c = λ durable image j opened told holds.
+    let s = c.args.self.now in
+    let k = s.kept c.requires.up in
+    elim c.match-get.branch [
+      | in-Some w ↦ rw w.device-is (counts-none _ _)
+      | in-None+in_ok-version-in-None w ↦
+          let tables_are = w.pile-tables.ensures ∙ ap (λ (t : Trie). (node_at t root).tables) w.trie.ensures.nodes in
+          rw w.device-is
+          (stopped (view_of s) durable (g.D.Device.state c.args.device.now) opened (vec_len s.filters) k c.args.key.now s.geometry w.deref.result.now w.pile-tables.result.now _ _ s.geometry_is w.deref.ensures.value tables_are w.search.ensures.stops image j told holds)
     ]

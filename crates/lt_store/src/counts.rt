@@ -1,0 +1,39 @@
+//! What a store tells of itself in numbers.
+
+ghost use Rattle.std.specs.Prelude.{◌≡◌, ◌+◌, ◌≤◌, true};
+ghost use Rattle.lt_alloc.specs.Extents.{free_count};
+ghost use Rattle.lt_format.specs.Trie.{table_total};
+
+use crate::store::Store;
+use lt_device::Device;
+
+/// How many writes were accepted, how many blocks the device has read so far, and how many tables and
+/// free extents there are.
+#[derive(Clone, Copy, Debug, PartialEq, Eq)]
+pub struct Stat {
+    pub writes: u64,
+    pub reads: u64,
+    pub tables: u32,
+    pub free: u32,
+}
+
+impl Store {
+    /// The numbers of the store and of its device at this moment.
+    pub fn stat<D: Device>(&self, device: &D) -> Stat
+        requires { self.now.is_up ≡ true }
+        ensures stat { result ≡ record {
+          writes = self.now.writes;
+          reads = D.reads device.now;
+          tables = table_total self.now.manifest.manifest.trie;
+          free = free_count self.now.extents;
+        } }
+        ensures within { result.tables + result.free ≤ self.now.manifest.manifest.header.extents }
+    {
+        Stat {
+            writes: self.writes,
+            reads: device.reads(),
+            tables: self.manifest.trie().tables(),
+            free: self.extents.free(),
+        }
+    }
+}
