@@ -1,5 +1,5 @@
 -- How often an extent is named after a change.
-use Rattle.std.proofs.Common.{◌≡◌, ℕ, ◌+◌, ◌*◌, ◌≤◌, refl, sym, subst, List, [], ◌∷◌, ◌++◌, length, take, drop, Bool, true, false, not, cond, Option, Some, None, arith}
+use Rattle.std.proofs.Common.{◌≡◌, ℕ, ◌+◌, ◌*◌, ◌≤◌, refl, sym, subst, List, [], ◌∷◌, ◌++◌, length, length-append, take, drop, Bool, true, false, not, cond, Option, Some, None, arith}
 use Rattle.std.specs.Prelude.{◌==◌}
 use Rattle.std.specs.Option.{unwrap_or}
 use Rattle.std.specs.declared.cmp.Ordering.{Ordering}
@@ -8,7 +8,7 @@ use Rattle.std.specs.Ordering.{is_eq}
 use Rattle.std.specs.FinMap.{find, put, is_sorted}
 use Rattle.std.specs.FinMap.Entries.{where_key, below_all, by_order}
 use Rattle.std.specs.List.{flat_map, fold}
-use Rattle.std.proofs.lemmas.Bool.{and_parts}
+use Rattle.std.proofs.lemmas.Bool.{and_parts, eqb-true}
 use Rattle.lt_format.specs.declared.node_id.NodeId.{NodeId}
 use Rattle.lt_format.specs.Trie.{Node, Trie, root, node_cmp, same_node, node_at, with_node, node_extents, named, empty_node}
 use Rattle.lt_format.specs.Changes.{Change, flush, deal, rewrite, ChildChange, new_extents, shape_fits, children_fit, appended, child_after, after_child, without_oldest, after_change}
@@ -60,6 +60,30 @@ with_node-times x trie id node h = by_tables (length node.tables == 0)
     by_tables : (none : Bool) → times x (named (cond none (where_key node_cmp (λ q. not (same_node id q)) trie) (put node_cmp id node trie))) + found_times x (find node_cmp id trie) ≤ times x (named trie) + times x (node_extents node)
     by_tables true = omega (arith, gone_times x id trie h)
     by_tables false = omega (arith, put_times x id node trie h)
+
+-- a flush names its tables beside all that was named
+pub flush-times : (x : ℕ) (trie : Trie) (tables : List ℕ) → is_sorted node_cmp trie ≡ true → 1 ≤ length tables → times x (named (after_change trie (flush tables))) ≡ times x (named trie) + times x tables
+unfolding after_change with_node node_at
+flush-times x trie tables h some = by_tables (length ((unwrap_or (find node_cmp root trie) empty_node).tables ++ tables) == 0) refl
+  where
+    counted : times x (named (put node_cmp root (appended (unwrap_or (find node_cmp root trie) empty_node) tables) trie)) ≡ times x (named trie) + times x tables
+    counted =
+        let before : Node = unwrap_or (find node_cmp root trie) empty_node in
+        omega (
+          arith,
+          put_times x root (appended before tables) trie h,
+          times-append x (before.tables ++ tables) before.groups,
+          times-append x before.tables tables,
+          times-append x before.tables before.groups,
+        )
+
+    by_tables : (none : Bool) → (length ((unwrap_or (find node_cmp root trie) empty_node).tables ++ tables) == 0) ≡ none
+        → times x (named (cond none (where_key node_cmp (λ q. not (same_node root q)) trie) (put node_cmp root (appended (unwrap_or (find node_cmp root trie) empty_node) tables) trie))) ≡ times x (named trie) + times x tables
+    by_tables true is = absurd (
+      let size : length ((unwrap_or (find node_cmp root trie) empty_node).tables ++ tables) ≡ length (unwrap_or (find node_cmp root trie) empty_node).tables + length tables = length-append (unwrap_or (find node_cmp root trie) empty_node).tables tables in
+      let none : length ((unwrap_or (find node_cmp root trie) empty_node).tables ++ tables) ≡ 0 = eqb-true _ 0 is in
+      omega (arith, size, none))
+    by_tables false is = counted
 
 child-times : (x : ℕ) (trie : Trie) (c : ChildChange) → is_sorted node_cmp trie ≡ true → times x (named (after_child trie c)) ≤ times x (named trie) + times x (c.tables ++ c.groups)
 child-times x trie c h =

@@ -59,7 +59,7 @@ fold_long : (vs : List Item) (es : List (List ℕ × Item)) → length (fold (λ
 fold_long [] es = omega arith
 fold_long (v ∷ vs) es = omega (arith, fold_long vs (put rank_cmp v.key v es), put_long v.key v es)
 
-newest-few : (vs : List Item) → length (newest vs) ≤ length vs
+pub newest-few : (vs : List Item) → length (newest vs) ≤ length vs
 newest-few vs = omega (arith, fold_long vs [], length-map (ranked vs) (λ (e : List ℕ × Item). e.1))
 
 -- ---- a placed table holds no more items than were placed

@@ -6,6 +6,7 @@ pub mod CutLaws
 pub mod FilterLaws
 pub mod FlushLaws
 pub mod GetLaws
+pub mod GiveLaws
 pub mod GoLaws
 pub mod GroupLaws
 pub mod LookLaws
@@ -13,6 +14,8 @@ pub mod MemoryLaws
 pub mod MomentLaws
 pub mod NumberLaws
 pub mod OpenLaws
+pub mod PartLaws
 pub mod PileLaws
 pub mod PrepareLaws
+pub mod ReserveLaws
 pub mod SameLaws

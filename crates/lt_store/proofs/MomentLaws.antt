@@ -107,3 +107,16 @@ same-ready v d groups a b area pile same ready = record {
 -- once all is sure there is one image alone
 pub sure-agrees : (inside : ℕ → Type 0) (s : told.State) (now : ShownNow s) → UnsyncedIn (λ _. ⊥) s → (left : Image) → MayLeave s left → SameOutside inside now.image left
 sure-agrees inside s now sure left may = same_outside_widens (λ _. ⊥) inside now.image left (λ k none. absurd none) (unsynced_near sure now.image left now.shown may)
+
+-- an open store does not rest on the flags of its extents, nor on whether it is up
+pub open-alike : (v : StoreView) (d : State) (s : told.State) (up : Bool) (taken : List Bool) → IsOpen v d s → IsOpen (record v { is_up = up; taken = taken }) d s
+open-alike v d s up taken o = record {
+  rest = o.rest;
+  named = o.named;
+  groups = o.groups;
+  log = o.log;
+  slots = o.slots;
+  memory = o.memory;
+  filters = o.filters;
+  root_only = o.root_only;
+}

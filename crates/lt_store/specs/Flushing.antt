@@ -5,7 +5,9 @@ use Rattle.lt_device.specs.Moments.{Leaves}
 use Rattle.lt_device.specs.State as told
 use Rattle.lt_language.specs.Machine.{State}
 use Rattle.lt_tables.specs.Filter.{is_in}
-use Rattle.lt_tables.specs.Cut.{cut}
+use Rattle.lt_alloc.specs.declared.extents.Short.{Short}
+use Rattle.lt_alloc.specs.Extents.{free_count}
+use Rattle.lt_tables.specs.Cut.{cut, table_total}
 use Rattle.lt_tables.specs.Merge.{newest}
 use Rattle.lt_terms.specs.Items.{Item}
 use Rattle.lt_terms.specs.Bytes.{Image}
@@ -50,3 +52,9 @@ pub record IsPrepared (v : StoreView) (numbers : List ℕ) (image : Image) : Typ
   pub clear : HasLog v.named.geometry (other_area v.named.manifest.header.log_area) v.writes [] image
   pub placed : PlacedIn v.named.geometry image numbers (cut (newest v.memory))
   pub filters : AllByRecursion (KeepsFilter v.named.geometry v.kept image) numbers
+
+-- the tables of the memory table's newest items are more than the free extents
+pub record IsShort (v : StoreView) (short : Short) : Type 0 where
+  pub needed : short.needed ≡ table_total (newest v.memory)
+  pub free : short.free ≡ free_count v.taken
+  pub few : short.free < short.needed

@@ -1,8 +1,9 @@
 //! The tables of a list.
 
-ghost use Rattle.std.specs.Prelude.{◌≡◌, ◌<◌, ◌^◌, IfOk, length, map};
-ghost use Rattle.lt_tables.specs.Cut.{cut};
+ghost use Rattle.std.specs.Prelude.{◌≡◌, ◌<◌, ◌≤◌, ◌^◌, All, IfOk, length, map};
+ghost use Rattle.lt_tables.specs.Cut.{cut, table_total};
 ghost use Rattle.lt_tables.specs.Merge.{newest};
+ghost use Rattle.lt_store.specs.Building.{IsPart};
 
 use lt_balance::cut;
 use lt_bucket::Item;
@@ -14,7 +15,11 @@ use std::alloc::Global;
 pub(super) fn tables_of(alloc: Global, items: &[Item]) -> Result<Vec<&[Item]>, NoMemory>
     requires ranked { newest items.now ≡ items.now }
     requires few { length items.now < 2 ^ 32 }
-    ensures { IfOk result (λ tables. map (λ table. table.now) tables.items ≡ cut items.now) }
+    ensures tables { IfOk result (λ tables. map (λ table. table.now) tables.items ≡ cut items.now) }
+    ensures parts { IfOk result (λ tables. All (λ table. IsPart table.now) tables.items) }
+    ensures count { IfOk result (λ tables. length tables.items ≡ table_total items.now) }
+    ensures fewer { IfOk result (λ tables. length tables.items ≤ length items.now) }
+    ensures some { IfOk result (λ tables. 0 < length items.now → 0 < length tables.items) }
 {
     let entries = entries_of(alloc, items)?;
     let counts = cut(alloc, &entries)?;

@@ -1,6 +1,6 @@
 //! Flushes: the newest items of the memory table become tables of the root.
 
-ghost use Rattle.std.specs.Prelude.{◌≡◌, ℕ, ◌+◌, ◌<◌, ◌≤◌, true, false, Bool, List, [], Ok, Some, None, All, IfOk, IfSome, IsErrOf, IsErr, IsTrue, OnOk, length, map};
+ghost use Rattle.std.specs.Prelude.{◌≡◌, ℕ, ◌+◌, ◌<◌, ◌≤◌, true, false, Bool, List, [], Ok, Some, None, All, IfOk, IfSome, IsErrOf, IsOk, IsTrue, ◌||◌, ◌↔◌, OnOk, length, map};
 ghost use Rattle.lt_terms.specs.Bytes.{Image};
 ghost use Rattle.lt_terms.specs.Causes.{Rose};
 ghost use Rattle.lt_language.specs.Machine.{State};
@@ -10,21 +10,79 @@ ghost use Rattle.lt_alloc.specs.Extents.{free_count};
 ghost use Rattle.lt_format.specs.Changes.{flush};
 ghost use Rattle.lt_format.specs.Naming.{after_commit};
 ghost use Rattle.lt_format.specs.Trie.{all_distinct};
+ghost use Rattle.lt_manifest.specs.Opened as opened;
 ghost use Rattle.lt_store.specs.Building.{IsPart};
-ghost use Rattle.lt_store.specs.Flushing.{AreFree, IsPrepared, SomeKept, Stays, flush_header, flushed};
+ghost use Rattle.lt_store.specs.Flushing.{AreFree, IsPrepared, IsShort, SomeKept, Stays, flush_header, flushed};
+ghost use Rattle.lt_alloc.specs.declared.extents.Short.{Short};
+ghost use Rattle.lt_alloc.specs.Extents.{is_free};
+ghost use Rattle.lt_tables.specs.Filter.{is_in};
 ghost use Rattle.lt_store.specs.Kept.{IsKept};
 ghost use Rattle.lt_store.specs.Open.{IsOpen, blocks_of};
 ghost use Rattle.lt_store.specs.View.{view_of};
 
 use crate::building::build_tables;
+use crate::cutting::tables_of;
 use crate::faults::WriteFault;
 use crate::store::Store;
+use lt_alloc::{Extents, Short};
 use lt_bucket::Item;
 use lt_device::Device;
 use lt_node::{Change, Header, Numbers};
 use std::alloc::Global;
 
 impl Store {
+    /// Makes the newest items of the memory table tables of the root, and goes to the other log area.
+    /// Nothing is pending. Where the tables need more extents than are free, nothing has changed and both
+    /// numbers are answered; want of memory leaves the store as it is.
+    pub(super) fn flush<D: Device>(
+        &mut self,
+        alloc: Global,
+        device: &mut D,
+    ) -> Result<Option<Short>, WriteFault>
+        requires up { self.old.is_up ≡ true }
+        requires idle { self.old.log.pending ≡ [] }
+        requires some { 0 < length (view_of self.old).memory }
+        requires within { blocks_of (view_of self.old) ≤ D.blocks device.old }
+
+        // Each image since stands for what was durable; and the store is open for that.
+        ensures stays { (durable : State) → IsOpen (view_of self.old) durable (D.state device.old) → Stays durable (D.state device.old) (D.state device.new) }
+        ensures opened { IsOk result → (durable : State) → IsOpen (view_of self.old) durable (D.state device.old) → IsOpen (view_of self.new) durable (D.state device.new) }
+        ensures opened_again { IsErrOf result WriteFault.NoMemory → (durable : State) → IsOpen (view_of self.old) durable (D.state device.old) → IsOpen (view_of self.new) durable (D.state device.new) }
+
+        ensures done { result ≡ Ok None → ((view_of self.new).memory ≡ []) × (self.new.log.slots ≡ 0) × (self.new.log.pending ≡ []) }
+        ensures short { (short : Short) → result ≡ Ok (Some short) → IsShort (view_of self.old) short × (view_of self.new ≡ view_of self.old) × (device.new ≡ device.old) }
+        ensures idle { IsErrOf result WriteFault.NoMemory → self.new.log.pending ≡ [] }
+        ensures up { (self.new.is_up ≡ false) ↔ IsErrOf result WriteFault.Device }
+        ensures writes { self.new.writes ≡ self.old.writes }
+        ensures undamaged { (b : ℕ) → IsErrOf result (WriteFault.Damaged b) → ⊥ }
+        ensures blocks { IsOk result → blocks_of (view_of self.new) ≡ blocks_of (view_of self.old) }
+        ensures size { D.blocks device.new ≡ D.blocks device.old }
+        ensures count { D.reads device.new ≡ D.reads device.old }
+        ensures later { D.faults device.old ≤ D.faults device.new }
+        ensures cause { IsErrOf result WriteFault.Device → Rose (D.faults device.old) (D.faults device.new) }
+    {
+        let items = self.memory.batch(alloc)?;
+        let tables = tables_of(alloc, &items)?;
+        let mut numbers = Vec::with_capacity(alloc, tables.len())?;
+        if let Err(short) = self.extents.take(tables.len() as u32, &mut numbers) {
+            return Ok(Some(short));
+        }
+        self.is_up = false;
+        match self.flush_into(alloc, device, &tables, &numbers) {
+            Ok(()) => {
+                self.is_up = true;
+                Ok(None)
+            }
+            Err(WriteFault::NoMemory) => {
+                give_back(&mut self.extents, &numbers);
+                self.is_up = true;
+                Err(WriteFault::NoMemory)
+            }
+            Err(WriteFault::Device) => Err(WriteFault::Device),
+            Err(WriteFault::Damaged(block)) => Err(WriteFault::Damaged(block)),
+        }
+    }
+
     /// Builds these tables of the memory table's newest items into these extents, behind a log area that
     /// was cleared, and commits the manifest with them and with that log area. The store is down
     /// meanwhile, since the extents are reserved and not yet named.
@@ -52,6 +110,7 @@ impl Store {
         ensures opened_again { IsErrOf result WriteFault.NoMemory → (durable : State) → IsOpen (view_of self.old) durable (D.state device.old) → IsOpen (view_of self.new) durable (D.state device.new) }
 
         ensures manifest { OnOk result ((view_of self.new).named.manifest ≡ after_commit (view_of self.old).named.manifest (flush numbers.now) (flush_header (view_of self.old))) }
+        ensures stands { OnOk result (opened.IsKept (view_of self.new).named) }
         ensures flushed { OnOk result (view_of self.new ≡ flushed (record (view_of self.old) { kept = (view_of self.new).kept }) (view_of self.new).named (flush_header (view_of self.old))) }
         ensures kept { IsErrOf result WriteFault.NoMemory → (taken : List Bool) → IsKept (view_of self.old).named (view_of self.old).log (view_of self.old).memory taken (length (view_of self.old).kept) (view_of self.old).writes
             → IsKept (view_of self.new).named (view_of self.new).log (view_of self.new).memory taken (length (view_of self.new).kept) (view_of self.new).writes }
@@ -59,6 +118,7 @@ impl Store {
         ensures taken { self.new.extents ≡ self.old.extents }
         ensures writes { self.new.writes ≡ self.old.writes }
         ensures memory { IsErrOf result WriteFault.NoMemory → (view_of self.new).memory ≡ (view_of self.old).memory }
+        ensures idle { IsErrOf result WriteFault.NoMemory → self.new.log.pending ≡ [] }
         ensures undamaged { (b : ℕ) → IsErrOf result (WriteFault.Damaged b) → ⊥ }
         ensures filters { length (view_of self.new).kept ≡ length (view_of self.old).kept }
         ensures geometry { (view_of self.new).named.geometry ≡ (view_of self.old).named.geometry }
@@ -99,6 +159,7 @@ impl Store {
         ensures stays { (durable : State) (o : IsOpen (view_of self.old) durable (D.state device.old)) → IsPrepared (view_of self.old) numbers.now o.rest.image → Stays durable (D.state device.old) (D.state device.new) }
         ensures opened { OnOk result ((durable : State) (o : IsOpen (view_of self.old) durable (D.state device.old)) → IsPrepared (view_of self.old) numbers.now o.rest.image → IsOpen (view_of self.new) durable (D.state device.new)) }
         ensures manifest { OnOk result ((view_of self.new).named.manifest ≡ after_commit (view_of self.old).named.manifest (flush numbers.now) (flush_header (view_of self.old))) }
+        ensures stands { OnOk result (opened.IsKept (view_of self.new).named) }
         ensures flushed { OnOk result (view_of self.new ≡ flushed (view_of self.old) (view_of self.new).named (flush_header (view_of self.old))) }
         ensures unchanged { IsErrOf result WriteFault.NoMemory → (view_of self.new ≡ view_of self.old) × (device.new ≡ device.old) }
         ensures down { self.new.is_up ≡ false }
@@ -122,8 +183,21 @@ impl Store {
             writes: self.writes,
         };
         self.manifest.commit(alloc, device, &change, &next)?;
-        self.log.turn(next.writes);
+        self.log.turn(self.manifest.header().writes);
         self.memory.clear();
         Ok(())
+    }
+}
+
+/// Gives extents back that are taken.
+fn give_back(extents: &mut Extents, numbers: &[u32])
+    requires distinct { IsTrue (all_distinct numbers.now) }
+    requires below { (x : ℕ) → is_in x numbers.now ≡ true → x < length extents.old }
+    requires taken { (x : ℕ) → is_in x numbers.now ≡ true → is_free extents.old x ≡ false }
+    ensures free { (x : ℕ) → x < length extents.old → is_free extents.new x ≡ (is_free extents.old x || is_in x numbers.now) }
+    ensures extents { length extents.new ≡ length extents.old }
+{
+    for number in numbers {
+        extents.give(*number);
     }
 }

@@ -1,8 +1,9 @@
-use Rattle.std.proofs.Common.{◌≡◌, ℕ, ◌+◌, ◌-◌, ◌<◌, ◌≤◌, ap, sym, subst, ◌∙◌, [], List, length, true, arith}
+use Rattle.std.proofs.Common.{◌≡◌, ℕ, ◌+◌, ◌-◌, ◌<◌, ◌≤◌, ap, sym, subst, ◌∙◌, [], List, length, true, false, arith}
 use Rattle.lt_terms.specs.Bytes.{Image}
 use Rattle.lt_device.specs.Moments.{MayLeave}
 use Rattle.lt_format.specs.declared.header.Header.{Header}
 use Rattle.lt_format.specs.Naming.{Named}
+use Rattle.lt_format.specs.Snapshot.{Manifest}
 use Rattle.lt_format.specs.Trie.{all_distinct}
 use Rattle.lt_language.specs.Machine.{State}
 use Rattle.lt_manifest.specs.Moments.{Names}
@@ -71,7 +72,9 @@ returns-clause-opened g c = λ d o p.
     let other : header.log_area ≡ other_area v.named.manifest.header.log_area = ap (λ (h : Header). 1 - h.log_area) is in
     let ready : IsPrepared v c.of.result o.rest.image = subst (λ xs. IsPrepared v xs o.rest.image) (sym numbers) p in
     let run = c.commit.ensures.any_moment o.rest.image o.rest.shown (each_names v d (g.D.Device.state c.args.device.now) o) in
+    let number : c.header.result.writes ≡ c.args.self.now.writes = ap (λ (h : Header). h.writes) (c.header.ensures.header ∙ ap (λ (m : Manifest). m.header) c.in_ok-commit.ensures.changed) in
+    let turned = c.turn.ensures ∙ ap (λ (w : ℕ). record v.log { area = other_area v.log.area; writes = w; slots = 0; cleared = false }) number in
     subst (λ (w : StoreView). IsOpen w d (g.D.Device.state c.commit.new.device))
-    (sym (flushed-view v c.commit.new.self header c.turn.new.self c.clear.new.self c.requires.idle c.turn.ensures c.clear.ensures))
+    (sym (flushed-view v c.commit.new.self header c.turn.new.self c.clear.new.self c.requires.idle turned c.clear.ensures))
     (flushed-open v d (g.D.Device.state c.args.device.now) (g.D.Device.state c.commit.new.device) o fits c.of.result header c.requires.idle other kept.number ready.clear ready.placed
     c.commit.new.self c.commit.ensures.geometry c.in_ok-commit.ensures.changed run (c.in_ok-commit.ensures.committed o.rest.image o.rest.shown (each_names v d (g.D.Device.state c.args.device.now) o)) c.in_ok-commit.ensures.sure ready.filters)

@@ -1,0 +1,203 @@
+-- Extents that a flush reserves, and the facts in memory after it.
+use Rattle.std.proofs.Common.{◌≡◌, ◌≢◌, ⊎_elim, ℕ, zero, suc, ◌+◌, ◌-◌, ◌<◌, ◌≤◌, ◌^◌, refl, sym, ap, subst, ◌∙◌, List, [], ◌∷◌, ◌++◌, length, get_or, take, Bool, true, false, not, ◌&&◌, ◌||◌, arith, length-append}
+use Rattle.std.specs.Prelude.{◌==◌, IsTrue, All, AllPairs, nat_le, nat_lt}
+use Rattle.std.proofs.lemmas.Bool.{eqb-true, eq-eqb, true≢false, and_from, and_parts, leb-true, ltb-true, le-leb, lt-ltb}
+use Rattle.lt_terms.specs.Items.{Item, total_cost, item_cost}
+use Rattle.lt_bucket.proofs.BucketPages.{count_small}
+use Rattle.lt_tables.specs.Filter.{is_in}
+use Rattle.lt_alloc.specs.Extents.{is_free, is_among, Reserves}
+use Rattle.lt_format.specs.declared.header.Header.{Header}
+use Rattle.lt_format.specs.Changes.{flush, after_change}
+use Rattle.lt_format.specs.Log.{group_room, log_fits, log_room}
+use Rattle.lt_format.specs.Naming.{Named, after_commit}
+use Rattle.lt_format.specs.Snapshot.{Manifest}
+use Rattle.lt_format.specs.Trie.{Trie, named, node_cmp, all_distinct}
+use Rattle.std.specs.FinMap.{is_sorted}
+use Rattle.lt_format.proofs.NamedLaws.{flush-times}
+use Rattle.lt_format.proofs.Numbers.{times, absent-times, times-absent}
+use Rattle.lt_manifest.specs.Opened as opened
+use Rattle.lt_redo.specs.LogState.{LogState, other_area}
+use Rattle.lt_store.specs.Flushing.{AreFree, flushed_log}
+use Rattle.lt_store.specs.Kept.{IsKept, logged, logged_count}
+
+-- ---- numbers in a list
+
+later-place : (x y : ℕ) (ys : List ℕ) → (is_in x ys ≡ true → (i : ℕ) × (i < length ys) × (get_or ys i 0 ≡ x)) → (b : Bool) → (y == x) ≡ b → is_in x (y ∷ ys) ≡ true → (i : ℕ) × (i < length (y ∷ ys)) × (get_or (y ∷ ys) i 0 ≡ x)
+later-place x y ys rest true is there = (0, omega arith, eqb-true y x is)
+later-place x y ys rest false is there =
+    let later = rest (sym (ap (λ b. b || is_in x ys) is) ∙ there) in
+    let below = later.1 in
+    (suc later.0, omega (arith, below), later.2)
+
+pub is_in-place : (x : ℕ) (xs : List ℕ) → is_in x xs ≡ true → (i : ℕ) × (i < length xs) × (get_or xs i 0 ≡ x)
+is_in-place x [] there = absurd (true≢false (sym there))
+is_in-place x (y ∷ ys) there = later-place x y ys (is_in-place x ys) (y == x) refl there
+
+pub pairs-distinct : (xs : List ℕ) → ((i j : ℕ) → i < j → j < length xs → get_or xs i 0 ≢ get_or xs j 0) → all_distinct xs ≡ true
+pairs-distinct [] apart = refl
+pairs-distinct (x ∷ xs) apart = and_from (not (is_in x xs)) (all_distinct xs) (first (is_in x xs) refl) (pairs-distinct xs (λ i j less below. apart (suc i) (suc j) (omega arith) (omega arith)))
+  where
+    first : (b : Bool) → is_in x xs ≡ b → not (is_in x xs) ≡ true
+    first true is = let at = is_in-place x xs is in let below = at.1 in absurd (apart 0 (suc at.0) (omega arith) (omega (arith, below)) (sym at.2))
+    first false is = ap not is
+
+-- ---- what is reserved
+
+free_below : (taken : List Bool) (x : ℕ) → is_free taken x ≡ true → x < length taken
+free_below [] x free = absurd (true≢false (sym free))
+free_below (b ∷ bs) zero free = omega arith
+free_below (b ∷ bs) (suc x) free = let rest = free_below bs x free in omega (arith, rest)
+
+not_true : (b : Bool) → not b ≡ true → b ≡ false
+not_true true is = absurd (true≢false (sym is))
+not_true false is = refl
+
+module _ (n : Named) (log : LogState) (memory : List Item) (taken now : List Bool) (filters writes count : ℕ) (numbers : List ℕ) (k : IsKept n log memory taken filters writes) (r : Reserves count taken now [] numbers) where
+
+  pub reserved-len : length numbers ≡ count
+  reserved-len = ap length r.appended ∙ r.len
+
+  was_free : (x : ℕ) → is_in x numbers ≡ true → is_free taken x ≡ true
+  was_free x there =
+      let at = is_in-place x r.numbers (subst (λ xs. is_in x xs ≡ true) r.appended there) in
+      subst (λ y. is_free taken y ≡ true) at.2 (r.were_free at.0 0 at.1)
+
+  pub reserved-free : AreFree n numbers
+  reserved-free = record {
+    below = λ x there. let below = free_below taken x (was_free x there) in let size = k.extents in omega (arith, below, size);
+    unnamed = λ x there.
+        let free = was_free x there in
+        let below : x < n.manifest.header.extents = let b = free_below taken x free in let size = k.extents in omega (arith, b, size) in
+        not_true (is_in x (named n.manifest.trie)) (sym (k.free x below) ∙ free);
+  }
+
+  pub reserved-distinct : all_distinct numbers ≡ true
+  reserved-distinct = subst (λ xs. all_distinct xs ≡ true) (sym r.appended) (pairs-distinct r.numbers (λ i j less below. r.differ i j 0 less below))
+
+  pub reserved-taken : (x : ℕ) → is_in x numbers ≡ true → is_free now x ≡ false
+  reserved-taken x there = r.others_stay x ∙ ap (λ b. is_free taken x && not b) (subst (λ xs. is_in x xs ≡ true) r.appended there) ∙ right (is_free taken x)
+    where
+      right : (b : Bool) → (b && false) ≡ false
+      right true = refl
+      right false = refl
+
+  pub reserved-below : (x : ℕ) → is_in x numbers ≡ true → x < length now
+  reserved-below x there = let below = free_below taken x (was_free x there) in let size = r.same_extents in omega (arith, below, size)
+
+  -- what is given back is free as before
+  pub given-free : (given : List Bool) → ((x : ℕ) → x < length now → is_free given x ≡ (is_free now x || is_in x numbers)) → (x : ℕ) → x < length taken → is_free given x ≡ is_free taken x
+  given-free given back x small = back x (let size = r.same_extents in omega (arith, small, size)) ∙ ap (λ b. b || is_in x numbers) (r.others_stay x) ∙ decide (is_in x numbers) refl
+    where
+      same : is_among x r.numbers ≡ is_in x numbers
+      same = ap (is_in x) (sym r.appended)
+      decide : (b : Bool) → is_in x numbers ≡ b → ((is_free taken x && not (is_among x r.numbers)) || is_in x numbers) ≡ is_free taken x
+      decide true is = rw (same, is) (right (is_free taken x) ∙ sym (was_free x is))
+        where
+          right : (b : Bool) → ((b && false) || true) ≡ true
+          right true = refl
+          right false = refl
+      decide false is = rw (same, is) (none (is_free taken x))
+        where
+          none : (b : Bool) → ((b && true) || false) ≡ b
+          none true = refl
+          none false = refl
+
+-- a flush names the reserved extents beside the others
+named-flush : (trie : Trie) (numbers : List ℕ) (x : ℕ) → is_sorted node_cmp trie ≡ true → 1 ≤ length numbers → is_in x (named (after_change trie (flush numbers))) ≡ (is_in x (named trie) || is_in x numbers)
+named-flush trie numbers x rising some = decide (is_in x (named trie)) (is_in x numbers) (is_in x (named (after_change trie (flush numbers)))) refl refl refl
+  where
+    count : times x (named (after_change trie (flush numbers))) ≡ times x (named trie) + times x numbers
+    count = flush-times x trie numbers rising some
+    -- a number that is in a list stands there some times
+    some_times : (xs : List ℕ) → is_in x xs ≡ true → times x xs ≡ 0 → ⊥
+    some_times xs there none = true≢false (sym there ∙ absent-times x xs none)
+    no_times : (xs : List ℕ) → is_in x xs ≡ false → times x xs ≡ 0
+    no_times xs absent = times-absent x xs absent
+    decide : (a b c : Bool) → is_in x (named trie) ≡ a → is_in x numbers ≡ b → is_in x (named (after_change trie (flush numbers))) ≡ c → c ≡ (a || b)
+    decide true b true one two three = refl
+    decide true b false one two three = absurd (some_times (named trie) one (let none = no_times (named (after_change trie (flush numbers))) three in omega (arith, none, count)))
+    decide false true true one two three = refl
+    decide false true false one two three = absurd (some_times numbers two (let none = no_times (named (after_change trie (flush numbers))) three in omega (arith, none, count)))
+    decide false false true one two three = absurd (some_times (named (after_change trie (flush numbers))) three (let a = no_times (named trie) one in let b = no_times numbers two in omega (arith, a, b, count)))
+    decide false false false one two three = refl
+
+-- ---- the facts in memory
+
+-- after a flush
+pub flushed-kept : (n m : Named) (log : LogState) (memory : List Item) (taken now : List Bool) (filters writes count : ℕ) (numbers : List ℕ) (header : Header) (k : IsKept n log memory taken filters writes) → Reserves count taken now [] numbers → 1 ≤ length numbers
+    → opened.IsKept m → m.geometry ≡ n.geometry → m.manifest ≡ after_commit n.manifest (flush numbers) header → header.log_area ≡ other_area n.manifest.header.log_area → header.extents ≡ n.manifest.header.extents → header.writes ≡ writes
+    → IsKept m (flushed_log log header) [] now filters writes
+flushed-kept n m log memory taken now filters writes count numbers header k r some stands geometry manifest area extents number =
+    let head : m.manifest.header ≡ header = ap (λ (x : Manifest). x.header) manifest in
+    let head_area : m.manifest.header.log_area ≡ header.log_area = ap (λ (h : Header). h.log_area) head in
+    let head_extents : m.manifest.header.extents ≡ n.manifest.header.extents = ap (λ (h : Header). h.extents) head ∙ extents in
+    let head_writes : m.manifest.header.writes ≡ writes = ap (λ (h : Header). h.writes) head ∙ number in
+    let trie : m.manifest.trie ≡ after_change n.manifest.trie (flush numbers) = ap (λ (x : Manifest). x.trie) manifest in
+    let few : writes < 2 ^ 64 =
+        let bound = ltb-true _ (2 ^ 64) (and_parts (nat_le (total_cost memory) log_room) (nat_lt (n.manifest.header.writes + length memory) (2 ^ 64)) k.fits).1 in
+        let is = k.number in
+        omega (arith, bound, is) in
+    let size = k.extents in
+    let same = r.same_extents in
+    let filled = k.filters_len in
+    record {
+      manifest = stands;
+      geometry = k.geometry ∙ sym geometry;
+      area = ap other_area k.area ∙ sym area ∙ sym head_area;
+      start = sym (ap (λ (h : Header). h.writes) head);
+      items = refl;
+      fits = and_from (nat_le 0 log_room) (nat_lt (m.manifest.header.writes + 0) (2 ^ 64)) refl (lt-ltb (m.manifest.header.writes + 0) (2 ^ 64) (omega (arith, head_writes, few)));
+      number = omega (arith, head_writes);
+      enough = omega arith;
+      within = omega arith;
+      slot = λ none. absurd (omega arith);
+      room = omega arith;
+      extents = same ∙ size ∙ sym head_extents;
+      free = λ x small.
+          let within : x < n.manifest.header.extents = omega (arith, small, head_extents) in
+          let there : is_in x (named m.manifest.trie) ≡ (is_in x (named n.manifest.trie) || is_in x numbers) = ap (λ (t : Trie). is_in x (named t)) trie ∙ named-flush n.manifest.trie numbers x k.manifest.trie.rising some in
+          r.others_stay x ∙ ap (λ b. b && not (is_among x r.numbers)) (k.free x within) ∙ both (is_in x (named n.manifest.trie)) (is_among x r.numbers)
+          ∙ ap (λ b. not (is_in x (named n.manifest.trie) || b)) (ap (is_in x) (sym r.appended)) ∙ ap not (sym there);
+      filters_len = filled ∙ sym head_extents;
+    }
+  where
+    both : (a b : Bool) → (not a && not b) ≡ not (a || b)
+    both true b = refl
+    both false b = refl
+
+-- after a flush that was refused, once the extents were given back
+pub back-kept : (n m : Named) (log log' : LogState) (memory memory' : List Item) (taken now given : List Bool) (filters filters' writes writes' count : ℕ) (numbers : List ℕ) (k : IsKept n log memory taken filters writes) (k' : IsKept m log' memory' taken filters' writes') → Reserves count taken now [] numbers
+    → length given ≡ length now → ((x : ℕ) → x < length now → is_free given x ≡ (is_free now x || is_in x numbers)) → IsKept m log' memory' given filters' writes'
+back-kept n m log log' memory memory' taken now given filters filters' writes writes' count numbers k k' r size back = record {
+  manifest = k'.manifest;
+  geometry = k'.geometry;
+  area = k'.area;
+  start = k'.start;
+  items = k'.items;
+  fits = k'.fits;
+  number = k'.number;
+  enough = k'.enough;
+  within = k'.within;
+  slot = k'.slot;
+  room = k'.room;
+  extents = size ∙ r.same_extents ∙ k'.extents;
+  free = λ x small. given-free n log memory taken now filters writes count numbers k r given back x (let len = k'.extents in omega (arith, small, len)) ∙ k'.free x small;
+  filters_len = k'.filters_len;
+}
+
+-- the items in memory are few
+pub memory-few : (n : Named) (log : LogState) (memory : List Item) (taken : List Bool) (filters writes : ℕ) → IsKept n log memory taken filters writes → length memory ≤ 204092
+memory-few n log memory taken filters writes k =
+    let cost = leb-true (total_cost memory) log_room (and_parts (nat_le (total_cost memory) log_room) (nat_lt (n.manifest.header.writes + length memory) (2 ^ 64)) k.fits).0 in
+    let small = count_small memory in
+    omega (arith, cost, small)
+
+-- the same facts of equal parts
+pub kept-along : (n : Named) (log log' : LogState) (memory memory' : List Item) (taken taken' : List Bool) (filters filters' writes writes' : ℕ) → log' ≡ log → memory' ≡ memory → taken' ≡ taken → filters' ≡ filters → writes' ≡ writes
+    → IsKept n log memory taken filters writes → IsKept n log' memory' taken' filters' writes'
+kept-along n log log' memory memory' taken taken' filters filters' writes writes' a b c d e k =
+    subst (λ l. IsKept n l memory' taken' filters' writes') (sym a)
+    (subst (λ m. IsKept n log m taken' filters' writes') (sym b)
+    (subst (λ t. IsKept n log memory t filters' writes') (sym c)
+    (subst (λ f. IsKept n log memory taken f writes') (sym d)
+    (subst (λ w. IsKept n log memory taken filters w) (sym e) k))))

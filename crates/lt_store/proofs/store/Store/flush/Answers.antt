@@ -1,0 +1,155 @@
+use Rattle.std.proofs.Common.{rules, ◌≡◌, ℕ, ◌+◌, ◌<◌, ◌≤◌, ◌^◌, refl, ap, sym, subst, ◌∙◌, [], List, length, true, false, arith, Fits, w32}
+use Rattle.lt_terms.specs.Items.{Item}
+use Rattle.lt_image.proofs.CountLaws.{newest-few}
+use Rattle.lt_tables.proofs.NewestLaws.{newest-newest}
+use Rattle.lt_tables.specs.Merge.{newest}
+use Rattle.std.specs.Prelude.{◌||◌}
+use Rattle.lt_alloc.specs.Extents.{Reserves, is_free}
+use Rattle.lt_format.specs.Trie.{all_distinct}
+use Rattle.lt_language.specs.Machine.{State}
+use Rattle.lt_format.specs.declared.header.Header.{Header}
+use Rattle.lt_format.specs.Changes.{flush}
+use Rattle.lt_format.specs.Naming.{after_commit}
+use Rattle.lt_tables.specs.Filter.{is_in}
+use Rattle.lt_store.specs.Flushing.{AreFree, flush_header, flushed_log}
+use Rattle.lt_store.specs.Kept.{IsKept}
+use Rattle.lt_store.specs.Open.{IsOpen, StoreView}
+use Rattle.lt_store.specs.View.{view_of}
+use Rattle.lt_store.proofs.MomentLaws.{open-alike}
+use Rattle.lt_store.proofs.PartLaws.{newest-some}
+use Rattle.lt_store.proofs.ReserveLaws.{reserved-len, reserved-free, reserved-distinct, reserved-below, flushed-kept, back-kept, kept-along, memory-few}
+use Rattle.lt_store.proofs.store.Store.flush.Goals as goal
+
+pub tables_of-requires-clause-ranked : goal.tables_of-requires-clause-ranked
+tables_of-requires-clause-ranked g c =
+    let is = c.deref.ensures.value ∙ c.in_ok-items.ensures in
+    ap newest is ∙ newest-newest c.args.self.now.memory ∙ sym is
+
+pub tables_of-requires-clause-few : goal.tables_of-requires-clause-few
+tables_of-requires-clause-few g c =
+    let is : length c.deref.result.now ≡ length (newest c.args.self.now.memory) = ap length (c.deref.ensures.value ∙ c.in_ok-items.ensures) in
+    let few = newest-few c.args.self.now.memory in
+    let memory = memory-few _ _ c.args.self.now.memory _ _ _ (c.args.self.now.kept c.requires.up) in
+    omega (arith, is, few, memory)
+
+pub overflow_cast-len : goal.overflow_cast-len
+overflow_cast-len g c =
+    let is : length c.deref.result.now ≡ length (newest c.args.self.now.memory) = ap length (c.deref.ensures.value ∙ c.in_ok-items.ensures) in
+    let few = newest-few c.args.self.now.memory in
+    let memory = memory-few _ _ c.args.self.now.memory _ _ _ (c.args.self.now.kept c.requires.up) in
+    let fewer = c.in_ok-tables.ensures.fewer in
+    let len = c.len-2.ensures in
+    let size = c.in_ok-tables.tables.ok.0 in
+    omega (arith, is, few, memory, fewer, len, size)
+
+pub flush_into-requires-clause-some : goal.flush_into-requires-clause-some
+flush_into-requires-clause-some g c =
+    let me = c.args.self.now in
+    let kept = me.kept c.requires.up in
+    let r = subst (λ xs. Reserves c.len-2.result me.extents c.take.new.self xs c.take.new.into.items) c.in_ok-numbers.ensures.items c.in_default.ensures.ok in
+    let count : length c.take.new.into.items ≡ c.len-2.result = reserved-len me.manifest me.log me.memory me.extents c.take.new.self _ _ c.len-2.result c.take.new.into.items kept r in
+    let is : length c.deref.result.now ≡ length (newest me.memory) = ap length (c.deref.ensures.value ∙ c.in_ok-items.ensures) in
+    let any = newest-some me.memory c.requires.some in
+    let tables : 0 < length c.in_ok-tables.tables.items = c.in_ok-tables.ensures.some (omega (arith, is, any)) in
+    let same : length c.deref-3.result.now ≡ length c.take.new.into.items = ap length c.deref-3.ensures.value in
+    let len = c.len-2.ensures in
+    let size = c.in_ok-tables.tables.ok.0 in
+    omega (arith, count, tables, same, len, size)
+
+pub flush_into-requires-clause-distinct : goal.flush_into-requires-clause-distinct
+flush_into-requires-clause-distinct g c =
+    let me = c.args.self.now in
+    let kept = me.kept c.requires.up in
+    let r = subst (λ xs. Reserves c.len-2.result me.extents c.take.new.self xs c.take.new.into.items) c.in_ok-numbers.ensures.items c.in_default.ensures.ok in
+    subst (λ xs. all_distinct xs ≡ true) (sym c.deref-3.ensures.value) (reserved-distinct me.manifest me.log me.memory me.extents c.take.new.self _ _ c.len-2.result c.take.new.into.items kept r)
+
+pub flush_into-requires-clause-free : goal.flush_into-requires-clause-free
+flush_into-requires-clause-free g c =
+    let me = c.args.self.now in
+    let kept = me.kept c.requires.up in
+    let r = subst (λ xs. Reserves c.len-2.result me.extents c.take.new.self xs c.take.new.into.items) c.in_ok-numbers.ensures.items c.in_default.ensures.ok in
+    subst (AreFree me.manifest) (sym c.deref-3.ensures.value) (reserved-free me.manifest me.log me.memory me.extents c.take.new.self _ _ c.len-2.result c.take.new.into.items kept r)
+
+pub give_back-requires-clause-distinct : goal.give_back-requires-clause-distinct
+give_back-requires-clause-distinct g c =
+    let me = c.args.self.now in
+    let kept = me.kept c.requires.up in
+    let r = subst (λ xs. Reserves c.len-2.result me.extents c.take.new.self xs c.take.new.into.items) c.in_ok-numbers.ensures.items c.in_default.ensures.ok in
+    subst (λ xs. all_distinct xs ≡ true) (sym c.deref-in-Err-NoMemory.ensures.value) (reserved-distinct me.manifest me.log me.memory me.extents c.take.new.self _ _ c.len-2.result c.take.new.into.items kept r)
+
+pub give_back-requires-clause-below : goal.give_back-requires-clause-below
+give_back-requires-clause-below g c = λ x there.
+    let me = c.args.self.now in
+    let kept = me.kept c.requires.up in
+    let r = subst (λ xs. Reserves c.len-2.result me.extents c.take.new.self xs c.take.new.into.items) c.in_ok-numbers.ensures.items c.in_default.ensures.ok in
+    let below = reserved-below me.manifest me.log me.memory me.extents c.take.new.self _ _ c.len-2.result c.take.new.into.items kept r x (subst (λ xs. is_in x xs ≡ true) c.deref-in-Err-NoMemory.ensures.value there) in
+    let same : length c.flush_into.new.self.extents ≡ length c.take.new.self = ap length c.flush_into.ensures.taken in
+    omega (arith, below, same)
+
+pub returns-in-Ok-clause-stays : goal.returns-in-Ok-clause-stays
+returns-in-Ok-clause-stays g c = λ d o. c.in-Ok.ensures.stays d (open-alike (view_of c.args.self.now) d (g.D.Device.state c.args.device.now) false c.take.new.self o)
+
+pub returns-in-Ok-clause-opened : goal.returns-in-Ok-clause-opened
+returns-in-Ok-clause-opened g c = λ ok d o.
+    open-alike (view_of c.flush_into.new.self) d (g.D.Device.state c.flush_into.new.device) true c.flush_into.new.self.extents
+    (c.in-Ok.ensures.opened d (open-alike (view_of c.args.self.now) d (g.D.Device.state c.args.device.now) false c.take.new.self o))
+
+pub returns-in-Err-NoMemory-clause-stays : goal.returns-in-Err-NoMemory-clause-stays
+returns-in-Err-NoMemory-clause-stays g c = λ d o. c.flush_into.ensures.stays d (open-alike (view_of c.args.self.now) d (g.D.Device.state c.args.device.now) false c.take.new.self o)
+
+pub returns-in-Err-Device-clause-stays : goal.returns-in-Err-Device-clause-stays
+returns-in-Err-Device-clause-stays g c = λ d o. c.flush_into.ensures.stays d (open-alike (view_of c.args.self.now) d (g.D.Device.state c.args.device.now) false c.take.new.self o)
+
+pub returns-in-Err-NoMemory-clause-opened_again : goal.returns-in-Err-NoMemory-clause-opened_again
+returns-in-Err-NoMemory-clause-opened_again g c = λ none d o.
+    open-alike (view_of c.flush_into.new.self) d (g.D.Device.state c.flush_into.new.device) true c.give_back.new.extents
+    (c.in-Err-NoMemory.ensures.opened_again (search rules) d (open-alike (view_of c.args.self.now) d (g.D.Device.state c.args.device.now) false c.take.new.self o))
+
+pub returns-in-Err-NoMemory-clause-idle : goal.returns-in-Err-NoMemory-clause-idle
+returns-in-Err-NoMemory-clause-idle g c = λ none. c.in-Err-NoMemory.ensures.idle (search rules)
+
+pub invariant_of-self-in-Ok : goal.invariant_of-self-in-Ok
+invariant_of-self-in-Ok g c =
+    let me = c.args.self.now in
+    let kept = me.kept c.requires.up in
+    let r = subst (λ xs. Reserves c.len-2.result me.extents c.take.new.self xs c.take.new.into.items) c.in_ok-numbers.ensures.items c.in_default.ensures.ok in
+    let new = c.flush_into.new.self in
+    let v : StoreView = view_of me in
+    let count : length c.take.new.into.items ≡ c.len-2.result = reserved-len me.manifest me.log me.memory me.extents c.take.new.self _ _ c.len-2.result c.take.new.into.items kept r in
+    let is : length c.deref.result.now ≡ length (newest me.memory) = ap length (c.deref.ensures.value ∙ c.in_ok-items.ensures) in
+    let any = newest-some me.memory c.requires.some in
+    let tables : 0 < length c.in_ok-tables.tables.items = c.in_ok-tables.ensures.some (omega (arith, is, any)) in
+    let len = c.len-2.ensures in
+    let size = c.in_ok-tables.tables.ok.0 in
+    let some : 1 ≤ length c.take.new.into.items = omega (arith, count, tables, len, size) in
+    let filled : length new.filters.items ≡ length me.filters.items = c.in-Ok.ensures.filters in
+    let new_len = new.filters.ok.0 in
+    let old_len = me.filters.ok.0 in
+    let header : Header = flush_header v in
+    let flushed_is = c.in-Ok.ensures.flushed in
+    let manifest = c.in-Ok.ensures.manifest ∙ ap (λ xs. after_commit me.manifest.manifest (flush xs) header) c.deref-3.ensures.value in
+    let k = flushed-kept me.manifest new.manifest me.log me.memory me.extents c.take.new.self _ _ c.len-2.result c.take.new.into.items header kept r some c.in-Ok.ensures.stands c.in-Ok.ensures.geometry manifest refl refl refl in
+    record {
+      geometry_is = new.geometry_is;
+      kept = λ up. kept-along new.manifest (flushed_log me.log header) new.log [] new.memory c.take.new.self new.extents _ _ _ _ (ap (λ (w : StoreView). w.log) flushed_is) (ap (λ (w : StoreView). w.memory) flushed_is) c.in-Ok.ensures.taken (omega (arith, filled, new_len, old_len)) c.in-Ok.ensures.writes k;
+    }
+
+pub invariant_of-self-in-Err-NoMemory : goal.invariant_of-self-in-Err-NoMemory
+invariant_of-self-in-Err-NoMemory g c =
+    let me = c.args.self.now in
+    let kept = me.kept c.requires.up in
+    let r = subst (λ xs. Reserves c.len-2.result me.extents c.take.new.self xs c.take.new.into.items) c.in_ok-numbers.ensures.items c.in_default.ensures.ok in
+    let new = c.flush_into.new.self in
+    let new_len : length new.filters.items ≡ Rattle.rt.vec.Vec.vec_len new.filters = new.filters.ok.0 in
+    let old_len : length me.filters.items ≡ Rattle.rt.vec.Vec.vec_len me.filters = me.filters.ok.0 in
+    let before = kept-along me.manifest me.log me.log me.memory me.memory me.extents me.extents _ (length me.filters.items) me.writes me.writes refl refl refl old_len refl kept in
+    let k' = c.in-Err-NoMemory.ensures.kept (search rules) me.extents before in
+    let numbers : c.deref-in-Err-NoMemory.result.now ≡ c.take.new.into.items = c.deref-in-Err-NoMemory.ensures.value in
+    let taken : new.extents ≡ c.take.new.self = c.in-Err-NoMemory.ensures.taken in
+    let size : length c.give_back.new.extents ≡ length c.take.new.self = c.give_back.ensures.extents ∙ ap length taken in
+    record {
+      geometry_is = new.geometry_is;
+      kept = λ up. kept-along new.manifest new.log new.log new.memory new.memory c.give_back.new.extents c.give_back.new.extents (length new.filters.items) _ new.writes new.writes refl refl refl (sym new_len) refl
+        (back-kept me.manifest new.manifest me.log new.log me.memory new.memory me.extents c.take.new.self c.give_back.new.extents _ (length new.filters.items) me.writes new.writes c.len-2.result c.take.new.into.items kept k' r size
+        (λ x small. subst (λ ns. is_free c.give_back.new.extents x ≡ (is_free c.take.new.self x || is_in x ns)) numbers (subst (λ e. is_free c.give_back.new.extents x ≡ (is_free e x || is_in x c.deref-in-Err-NoMemory.result.now)) taken (c.give_back.ensures.free x (subst (λ e. x < length e) (sym taken) small)))));
+    }
