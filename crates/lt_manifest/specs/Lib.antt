@@ -1,3 +1,4 @@
 pub mod Moments
 pub mod Marks
 pub mod Opened
+pub mod Shape

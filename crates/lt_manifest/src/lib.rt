@@ -7,6 +7,8 @@ mod fields;
 mod front;
 mod geometry;
 mod manifest;
+mod nodes;
+mod shape;
 
 pub use geometry::read_geometry;
 pub use lt_layout::OpenFault;
