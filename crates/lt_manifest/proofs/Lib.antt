@@ -4,4 +4,5 @@ pub mod FaultLaws
 pub mod FreshLaws
 pub mod GeometryLaws
 pub mod NodeLaws
+pub mod ReadingLaws
 pub mod ShapeLaws

@@ -1,4 +1,5 @@
 pub mod Moments
+pub mod Area
 pub mod Marks
 pub mod Opened
 pub mod Shape

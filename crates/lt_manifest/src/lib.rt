@@ -8,6 +8,7 @@ mod front;
 mod geometry;
 mod manifest;
 mod nodes;
+mod reading;
 mod shape;
 
 pub use geometry::read_geometry;
