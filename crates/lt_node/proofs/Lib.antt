@@ -1,1 +1,6 @@
 pub mod OctalLaws
+pub mod PlaceLaws
+pub mod MarkLaws
+pub mod FitLaws
+pub mod TotalLaws
+pub mod ApplyLaws

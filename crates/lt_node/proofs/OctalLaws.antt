@@ -1,8 +1,8 @@
 -- A loop over octal digits, and the digits of a key.
-use Rattle.std.proofs.Common.{◌≡◌, ℕ, zero, suc, ◌+◌, ◌*◌, ◌^◌, ◌<◌, ◌≤◌, List, [], ◌∷◌, length, get_or, take, drop, drop-cons, add-one, arith, lit<, refl, sym, ap, subst, ◌∙◌}
+use Rattle.std.proofs.Common.{◌≡◌, ℕ, zero, suc, ◌+◌, ◌*◌, ◌^◌, ◌<◌, ◌≤◌, List, ◌∷◌, length, get_or, take, drop, drop-cons, add-one, arith, lit<, refl, sym, ap, ◌∙◌}
 use Rattle.std.proofs.lemmas.List.{drop_all}
 use Rattle.std.proofs.Math.Nat.{pow-suc, pow-le-pow_right}
-use Rattle.lt_terms.specs.Hashes.{key_hash, digits_of, digit_of}
+use Rattle.lt_terms.specs.Hashes.{key_hash, digits_of}
 use Rattle.lt_item.specs.declared.hash.Parts.{Parts}
 use Rattle.lt_item.specs.Parts.{parts_of}
 use Rattle.lt_format.specs.Trie.{path_number}

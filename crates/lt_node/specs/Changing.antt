@@ -1,6 +1,5 @@
 -- The changes as values of the program, and the nodes that they set.
-use Rattle.std.specs.Prelude.{ℕ, List, [], ◌∷◌, ◌++◌, length, map}
-use Rattle.std.specs.List.{fold}
+use Rattle.std.specs.Prelude.{[], ◌∷◌, ◌++◌, length, map}
 use Rattle.lt_format.specs.declared.node_id.NodeId.{NodeId}
 use Rattle.lt_format.specs.Trie.{Node, Trie, root, node_at, with_node}
 use Rattle.lt_format.specs.Changes as format

@@ -6,7 +6,7 @@ use Rattle.std.specs.FinMap.Entries.{where_key}
 use Rattle.std.specs.List.{insert, remove}
 use Rattle.std.specs.Prelude.{slice_index_or}
 use Rattle.lt_format.specs.declared.node_id.NodeId.{NodeId}
-use Rattle.lt_format.specs.Trie.{Node, Trie, node_cmp, same_node, empty_node}
+use Rattle.lt_format.specs.Trie.{Node, Trie, node_cmp, same_node}
 
 -- the node stands here
 pub record StandsAt (nodes : Trie) (id : NodeId) (i : ℕ) : Type 0 where

@@ -4,8 +4,10 @@
 mod change;
 mod entry;
 mod fault;
+mod fitting;
 mod key_path;
 mod numbers;
+mod place;
 mod trie;
 
 pub use change::{Change, ChildChange, Children};
