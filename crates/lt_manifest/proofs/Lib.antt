@@ -1,8 +1,13 @@
 pub mod AlikeLaws
+pub mod AreaLaws
+pub mod CommitLaws
 pub mod ExtentLaws
 pub mod FaultLaws
 pub mod FreshLaws
 pub mod GeometryLaws
+pub mod NameLaws
 pub mod NodeLaws
+pub mod PageLaws
 pub mod ReadingLaws
 pub mod ShapeLaws
+pub mod WriteLaws

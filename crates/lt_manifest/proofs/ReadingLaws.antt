@@ -1,14 +1,14 @@
 -- The bytes of an area, as they are read block by block.
-use Rattle.std.proofs.Common.{◌≡◌, ⊎_elim, ℕ, ◌+◌, ◌-◌, ◌*◌, ◌/◌, ◌%◌, ◌<◌, ◌≤◌, refl, sym, ap, subst, ◌∙◌, List, [], ◌∷◌, ◌++◌, length, take, Bool, true, false, cond, None, Result, Ok, Err, arith, length-append}
-use Rattle.std.specs.Prelude.{get_or, slice_index, ◌==◌}
-use Rattle.std.proofs.lemmas.Bool.{cases_lt, eq-eqb, ne_eqb}
+use Rattle.std.proofs.Common.{◌≡◌, ⊎_elim, ℕ, ◌+◌, ◌-◌, ◌*◌, ◌/◌, ◌%◌, ◌<◌, ◌≤◌, refl, sym, ap, subst, ◌∙◌, List, [], ◌∷◌, ◌++◌, length, take, Bool, true, false, cond, ◌&&◌, None, Result, Ok, Err, arith, length-append}
+use Rattle.std.specs.Prelude.{get_or, slice_index, nat_le, ◌==◌}
+use Rattle.std.proofs.lemmas.Bool.{cases_lt, eq-eqb, ne_eqb, and_parts, leb-true}
 use Rattle.std.proofs.lemmas.List.{get_or-take, get_or_append_left, get_or-append-add}
 use Rattle.lt_terms.specs.Bytes.{Image, block_at}
 use Rattle.lt_format.specs.declared.geometry.Geometry.{Geometry}
 use Rattle.lt_format.specs.declared.header.Header.{Header}
-use Rattle.lt_format.specs.Layout.{area_block}
+use Rattle.lt_format.specs.Layout.{area_block, blocks_needed}
 use Rattle.lt_format.specs.Trie.{Trie}
-use Rattle.lt_format.specs.Snapshot.{Manifest, Front, front_read, nodes_read, snapshot_read, area_byte, total_offset, ◌>>=◌}
+use Rattle.lt_format.specs.Snapshot.{Manifest, Front, front_read, nodes_read, snapshot_read, snapshot_in, as_block, area_byte, total_offset, extents_stand, ◌>>=◌}
 use Rattle.lt_manifest.specs.Area.{AreBytesFrom, after_front}
 use Rattle.lt_manifest.proofs.AlikeLaws.{front_read-same, nodes_read-same}
 
@@ -73,3 +73,26 @@ after_front-short g bytes front trie place read other = let differ : (place == f
 
 pub after_front-fault : (g : Geometry) (bytes : ℕ → ℕ) (front : Front) (e : ℕ) → nodes_read bytes front.total g.levels front.header.extents front.nodes None [] 40 ≡ Err e → after_front g bytes front ≡ Err e
 after_front-fault g bytes front e read = rw read refl
+
+-- ---- the whole snapshot
+
+pub few_extents : (g : Geometry) (blocks e : ℕ) → extents_stand g blocks e ≡ true → (1 ≤ e) × (e ≤ 65536)
+few_extents g blocks e h =
+    let outer = and_parts (nat_le 1 e && nat_le e 65536) (nat_le (blocks_needed g e) blocks) h in
+    let inner = and_parts (nat_le 1 e) (nat_le e 65536) outer.0 in
+    (leb-true _ _ inner.0, leb-true _ _ inner.1)
+
+-- the first field of the header that does not stand
+pub snapshot_in-front_fault : (g : Geometry) (image : Image) (a n b : ℕ) → length image ≡ n → (e : ℕ) × (front_read g n (area_byte image a) ≡ Err e) × (b ≡ area_block a + e / 4096) → snapshot_in g image a ≡ Err b
+snapshot_in-front_fault g image a n b size fault =
+    ap (as_block a) (snapshot-front_fault g (length image) (area_byte image a) fault.0 (ap (λ k. front_read g k (area_byte image a)) size ∙ fault.1)) ∙ ap Err (sym fault.2)
+
+pub snapshot_in-ok : (g : Geometry) (image : Image) (a n : ℕ) (front : Front) (bytes part : List ℕ) (m : Manifest) → length image ≡ n → front_read g n (area_byte image a) ≡ Ok front → AreBytesFrom image (area_block a) bytes → part ≡ take front.total bytes → front.total ≤ length bytes
+    → after_front g (slice_index part) front ≡ Ok m → snapshot_in g image a ≡ Ok m
+snapshot_in-ok g image a n front bytes part m size read are is within behind =
+    ap (as_block a) (snapshot-read g (length image) (area_byte image a) front (ap (λ k. front_read g k (area_byte image a)) size ∙ read) ∙ after_front-same g image a front bytes part are is within ∙ behind)
+
+pub snapshot_in-fault : (g : Geometry) (image : Image) (a n : ℕ) (front : Front) (bytes part : List ℕ) (e b : ℕ) → length image ≡ n → front_read g n (area_byte image a) ≡ Ok front → AreBytesFrom image (area_block a) bytes → part ≡ take front.total bytes → front.total ≤ length bytes
+    → after_front g (slice_index part) front ≡ Err e → b ≡ area_block a + e / 4096 → snapshot_in g image a ≡ Err b
+snapshot_in-fault g image a n front bytes part e b size read are is within behind at =
+    ap (as_block a) (snapshot-read g (length image) (area_byte image a) front (ap (λ k. front_read g k (area_byte image a)) size ∙ read) ∙ after_front-same g image a front bytes part are is within ∙ behind) ∙ ap Err (sym at)

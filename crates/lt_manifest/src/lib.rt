@@ -1,6 +1,7 @@
 //! The manifest of a store on its device.
 #![tactic(auto)]
 
+mod area;
 mod extents;
 mod fault;
 mod fields;
@@ -9,7 +10,9 @@ mod geometry;
 mod manifest;
 mod nodes;
 mod reading;
+mod replacing;
 mod shape;
+mod spelling;
 
 pub use geometry::read_geometry;
 pub use lt_layout::OpenFault;

@@ -13,10 +13,12 @@ ghost use Rattle.lt_node.specs.Changing.{change_of};
 ghost use Rattle.lt_manifest.specs.Moments.{Names, HasNew, HasOldOrNew, EditsClosed, ShowsSameOutside};
 ghost use Rattle.lt_manifest.specs.Opened.{IsKept, IsOpened, InSnapshot, fresh};
 
+use crate::reading::read_snapshot;
 use lt_device::Device;
 use lt_format::{Geometry, Header};
-use lt_layout::OpenFault;
+use lt_layout::{OpenFault, selected};
 use lt_node::{Change, CommitFault, Trie};
+use lt_page::Page;
 use std::alloc::Global;
 use std::marker::Model;
 
@@ -32,13 +34,13 @@ pub struct Manifest {
 impl Model for Manifest {
     ghost use Rattle.std.specs.Prelude.{◌≡◌};
     ghost use Rattle.lt_format.specs.Naming.{Named};
-    ghost use Rattle.lt_manifest.specs.Opened.{IsKept, named_by};
+    ghost use Rattle.lt_manifest.specs.Opened.{IsHeld, named_by};
 
     ghost Value = { Named };
 
     ghost view = { λ m. named_by m.geometry m.area m.header m.trie.nodes };
 
-    ghost invariant = { λ m. ⊥ };
+    ghost invariant = { λ m. IsHeld m.geometry m.area m.header m.trie };
 }
 
 impl Manifest {
@@ -94,9 +96,16 @@ impl Manifest {
         ensures size { D.blocks device.new ≡ D.blocks device.old }
         ensures count { CountsAtMost 306 (D.reads device.old) (D.reads device.new) }
     {
-        let _ = (alloc, device.blocks());
-        let _ = geometry;
-        Err(OpenFault::NoMemory)
+        let mut page = Page::new(alloc)?;
+        device.read(1, &mut page)?;
+        let area = selected(&page);
+        let (header, trie) = read_snapshot(alloc, device, geometry, area, &mut page)?;
+        Ok(Manifest {
+            geometry: *geometry,
+            area,
+            header,
+            trie,
+        })
     }
 
     pub fn header(&self) -> Header
