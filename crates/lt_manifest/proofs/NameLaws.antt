@@ -37,24 +37,54 @@ field-passes w bytes limit stands at x h = by_test (nat_le (at + byte_len w) lim
     by_test false true e h = absurd cc
     by_test false false e h = absurd cc
 
--- the length that a header gives is one of an area
-front_read-short : (g : Geometry) (blocks : ℕ) (bytes : ℕ → ℕ) (front : Front) → front_read g blocks bytes ≡ Ok front → front.total ≤ 1245224
-unfolding front_read
-front_read-short g blocks bytes front h =
-    let format = bind_is _ _ _ h in
-    let area = bind_is _ _ _ format.2 in
-    let gap = bind_is _ _ _ area.2 in
-    let extents = bind_is _ _ _ gap.2 in
-    let writes = bind_is _ _ _ extents.2 in
-    let nodes = bind_is _ _ _ writes.2 in
-    let total = bind_is _ _ _ nodes.2 in
-    let high = bind_is _ _ _ total.2 in
-    let low = bind_is _ _ _ high.2 in
-    let few = few_extents g blocks extents.0.0 (field-passes w32 bytes 40 (extents_stand g blocks) 4 extents.0 extents.1) in
-    let parts = and_parts (nat_le 40 total.0.0) (nat_le total.0.0 (40 + 19 * extents.0.0)) (field-passes w32 bytes 40 (λ n. nat_le 40 n && nat_le n (40 + 19 * extents.0.0)) 20 total.0 total.1) in
-    let most : total.0.0 ≤ 40 + 19 * extents.0.0 = leb-true total.0.0 (40 + 19 * extents.0.0) parts.1 in
-    let is : total.0.0 ≡ front.total = ap (λ (f : Front). f.total) (same_ok _ front low.2) in
-    omega (arith, few.1, most, is)
+-- the fields of a header, the last first
+module _ (g : Geometry) (blocks : ℕ) (bytes : ℕ → ℕ) where
+  abbrev end_of : ℕ × ℕ → ℕ × ℕ → ℕ × ℕ → ℕ × ℕ → ℕ × ℕ → ℕ × ℕ → Result Front ℕ
+  end_of area extents writes nodes total low = Ok (record { header = record { log_area = area.0; extents = extents.0; writes = writes.0 }; nodes = nodes.0; total = total.0 })
+
+  abbrev low_of : ℕ × ℕ → ℕ × ℕ → ℕ × ℕ → ℕ × ℕ → ℕ × ℕ → ℕ × ℕ → Result Front ℕ
+  low_of area extents writes nodes total high = field bytes 40 w64 is_zero 32 >>= end_of area extents writes nodes total
+
+  abbrev high_of : ℕ × ℕ → ℕ × ℕ → ℕ × ℕ → ℕ × ℕ → ℕ × ℕ → Result Front ℕ
+  high_of area extents writes nodes total = field bytes 40 w64 is_zero 24 >>= low_of area extents writes nodes total
+
+  abbrev total_of : ℕ × ℕ → ℕ × ℕ → ℕ × ℕ → ℕ × ℕ → Result Front ℕ
+  total_of area extents writes nodes = field bytes 40 w32 (λ n. nat_le 40 n && nat_le n (40 + 19 * extents.0)) 20 >>= high_of area extents writes nodes
+
+  abbrev nodes_of : ℕ × ℕ → ℕ × ℕ → ℕ × ℕ → Result Front ℕ
+  nodes_of area extents writes = field bytes 40 w32 (λ n. nat_le n extents.0) 16 >>= total_of area extents writes
+
+  abbrev writes_of : ℕ × ℕ → ℕ × ℕ → Result Front ℕ
+  writes_of area extents = field bytes 40 w64 always 8 >>= nodes_of area extents
+
+  abbrev extents_of : ℕ × ℕ → ℕ × ℕ → Result Front ℕ
+  extents_of area gap = field bytes 40 w32 (extents_stand g blocks) 4 >>= writes_of area
+
+  abbrev gap_of : ℕ × ℕ → Result Front ℕ
+  gap_of area = field bytes 40 w16 is_zero 2 >>= extents_of area
+
+  abbrev area_of : ℕ × ℕ → Result Front ℕ
+  area_of format = field bytes 40 w8 (λ n. nat_le n 1) 1 >>= gap_of
+
+  -- the length that a header gives is one of an area
+  front_read-short : (front : Front) → front_read g blocks bytes ≡ Ok front → front.total ≤ 1245224
+  unfolding front_read
+  front_read-short front h =
+      let format = bind_is (field bytes 40 w8 (λ n. n == 1) 0) area_of front h in
+      let area = bind_is (field bytes 40 w8 (λ n. nat_le n 1) 1) gap_of front format.2 in
+      let gap = bind_is (field bytes 40 w16 is_zero 2) (extents_of area.0) front area.2 in
+      let extents = bind_is (field bytes 40 w32 (extents_stand g blocks) 4) (writes_of area.0) front gap.2 in
+      let writes = bind_is (field bytes 40 w64 always 8) (nodes_of area.0 extents.0) front extents.2 in
+      let nodes = bind_is (field bytes 40 w32 (λ n. nat_le n extents.0.0) 16) (total_of area.0 extents.0 writes.0) front writes.2 in
+      let total = bind_is (field bytes 40 w32 (λ n. nat_le 40 n && nat_le n (40 + 19 * extents.0.0)) 20) (high_of area.0 extents.0 writes.0 nodes.0) front nodes.2 in
+      let high = bind_is (field bytes 40 w64 is_zero 24) (low_of area.0 extents.0 writes.0 nodes.0 total.0) front total.2 in
+      let low = bind_is (field bytes 40 w64 is_zero 32) (end_of area.0 extents.0 writes.0 nodes.0 total.0) front high.2 in
+      let few = few_extents g blocks extents.0.0 (field-passes w32 bytes 40 (extents_stand g blocks) 4 extents.0 extents.1) in
+      let parts = and_parts (nat_le 40 total.0.0) (nat_le total.0.0 (40 + 19 * extents.0.0)) (field-passes w32 bytes 40 (λ n. nat_le 40 n && nat_le n (40 + 19 * extents.0.0)) 20 total.0 total.1) in
+      let most : total.0.0 ≤ 40 + 19 * extents.0.0 = leb-true total.0.0 (40 + 19 * extents.0.0) parts.1 in
+      let made : Front = record { header = record { log_area = area.0.0; extents = extents.0.0; writes = writes.0.0 }; nodes = nodes.0.0; total = total.0.0 } in
+      let is : total.0.0 ≡ front.total = ap (λ (f : Front). f.total) (same_ok made front low.2) in
+      omega (arith, few.1, most, is)
 
 -- the snapshot of an area whose blocks are the same
 snapshot_in-same : (g : Geometry) (image left : Image) (a : ℕ) (m : Manifest) → length left ≡ length image → ((n : ℕ) → area_block a ≤ n → n < area_block a + 305 → block_at left n ≡ block_at image n) → snapshot_in g image a ≡ Ok m → snapshot_in g left a ≡ Ok m
