@@ -10,4 +10,5 @@ pub mod NodeLaws
 pub mod PageLaws
 pub mod ReadingLaws
 pub mod ShapeLaws
+pub mod SpellingLaws
 pub mod WriteLaws

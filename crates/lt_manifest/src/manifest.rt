@@ -13,7 +13,10 @@ ghost use Rattle.lt_node.specs.Changing.{change_of};
 ghost use Rattle.lt_manifest.specs.Moments.{Names, HasNew, HasOldOrNew, EditsClosed, ShowsSameOutside};
 ghost use Rattle.lt_manifest.specs.Opened.{IsKept, IsOpened, InSnapshot, fresh};
 
+use crate::area::{fill_area, fill_selector};
 use crate::reading::read_snapshot;
+use crate::replacing::replace;
+use crate::spelling::{snapshot_room, spell};
 use lt_device::Device;
 use lt_format::{Geometry, Header};
 use lt_layout::{OpenFault, selected};
@@ -68,9 +71,17 @@ impl Manifest {
         ensures later { D.faults device.old ≤ D.faults device.new }
         ensures cause { IsErrOf result CommitFault.Device → Rose (D.faults device.old) (D.faults device.new) }
     {
-        let _ = (alloc, extents, device.blocks());
-        let _ = geometry;
-        Err(CommitFault::NoMemory)
+        let header = Header {
+            log_area: 0,
+            extents,
+            writes: 0,
+        };
+        let mut page = Page::new(alloc)?;
+        let mut bytes = snapshot_room(alloc)?;
+        spell(&mut bytes, &header, &[]);
+        fill_area(device, geometry, 0, &bytes, &mut page)?;
+        fill_selector(&mut page, 0);
+        Ok(device.write(1, &page)?)
     }
 
     /// Reads the manifest of the area that is current.
@@ -163,10 +174,13 @@ impl Manifest {
         ensures later { D.faults device.old ≤ D.faults device.new }
         ensures cause { IsErrOf result CommitFault.Device → Rose (D.faults device.old) (D.faults device.new) }
     {
-        let _ = (alloc, device.blocks());
-        let _ = change;
-        let _ = header;
-        let _ = &self.area;
-        Err(CommitFault::NoMemory)
+        let mut page = Page::new(alloc)?;
+        let mut bytes = snapshot_room(alloc)?;
+        self.trie.apply(alloc, change)?;
+        self.header = *header;
+        spell(&mut bytes, &self.header, self.trie.nodes());
+        replace(device, &self.geometry, self.area, &bytes, &mut page)?;
+        self.area = 1 - self.area;
+        Ok(())
     }
 }

@@ -1,10 +1,20 @@
 //! Spelling a snapshot.
 
-ghost use Rattle.std.specs.Prelude.{◌≡◌, ◌+◌, ◌*◌, ◌≤◌, ◌++◌, [], length, vec_capacity};
+ghost use Rattle.std.specs.Prelude.{◌≡◌, ◌+◌, ◌*◌, ◌≤◌, ◌++◌, [], length, IfOk, vec_capacity};
 ghost use Rattle.lt_format.specs.Snapshot.{node_bytes, nodes_bytes, numbers, snapshot_bytes};
 
 use lt_format::{Header, NodeId};
 use lt_node::NodeEntry;
+use lt_page::{NoMemory, Page};
+use std::alloc::Global;
+
+/// An empty vector that has room for any snapshot.
+pub fn snapshot_room(alloc: Global) -> Result<Vec<u8>, NoMemory>
+    ensures empty { IfOk result (λ bytes. bytes.items ≡ []) }
+    ensures room { IfOk result (λ bytes. 305 * 4096 ≤ vec_capacity bytes) }
+{
+    Ok(Vec::with_capacity(alloc, 305 * Page::LEN)?)
+}
 
 /// Puts the snapshot of a manifest into an empty vector that has room for it.
 pub fn spell(bytes: &mut Vec<u8>, header: &Header, nodes: &[NodeEntry])
