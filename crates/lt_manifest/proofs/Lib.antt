@@ -5,6 +5,7 @@ pub mod ExtentLaws
 pub mod FaultLaws
 pub mod FreshLaws
 pub mod GeometryLaws
+pub mod ManifestLaws
 pub mod NameLaws
 pub mod NodeLaws
 pub mod PageLaws
