@@ -9,7 +9,7 @@ use Rattle.lt_device.proofs.Steps.{written_is, written_shown}
 use Rattle.lt_device.proofs.Fits.{wrote_fit}
 use Rattle.lt_format.specs.declared.geometry.Geometry.{Geometry}
 use Rattle.lt_format.specs.declared.header.Header.{Header}
-use Rattle.lt_format.specs.Layout.{is_geometry, selected, selector_block, area_block, edit_gate, is_open}
+use Rattle.lt_format.specs.Layout.{is_geometry, blocks_needed, selected, selector_block, area_block, edit_gate, is_open}
 use Rattle.lt_format.specs.Trie.{Trie, IsTrie, all_below}
 use Rattle.lt_format.specs.Changes.{Change, flush, deal, rewrite, new_extents, fits, after_change}
 use Rattle.lt_format.specs.Snapshot.{Manifest, IsManifest, snapshot_in, snapshot_bytes, extents_stand, pages_of, snapshot_page, ◌>>=◌}
@@ -17,8 +17,10 @@ use Rattle.lt_format.specs.Naming.{Named, manifest_in, may_commit, after_commit,
 use Rattle.lt_format.proofs.KeepLaws.{after_change-trie}
 use Rattle.lt_format.proofs.SnapshotReadLaws.{pages-fit, pages-read}
 use Rattle.lt_node.specs.View.{TrieView}
-use Rattle.lt_manifest.specs.Moments.{EditsClosed}
+use Rattle.lt_device.specs.Moments.{MayLeave, Leaves}
+use Rattle.lt_manifest.specs.Moments.{Names, HasNew, HasOldOrNew, EditsClosed}
 use Rattle.lt_manifest.specs.Opened.{IsKept, IsHeld, named_by, fresh}
+use Rattle.lt_manifest.specs.Next.{IsNext}
 use Rattle.lt_manifest.specs.Written.{HasArea, page_of, page_count}
 use Rattle.lt_manifest.proofs.ReadingLaws.{few_extents}
 
@@ -123,3 +125,38 @@ module _ (n : ℕ) (old new : State) (page bytes : List ℕ) (wrote : Wrote n 1 
       let snapshot : snapshot_in g image 0 ≡ Ok m = pages-read g image 0 m valid (subst (λ k. IsManifest g k m) (sym size) (fresh-stands g n extents stands))
           (λ k within. was.2 (area_block 0 + k) (λ e. absurd (omega arith)) ∙ (has was.0 was.1).pages k (subst (λ (b : List ℕ). k < page_count b) (sym spelled) within) ∙ ap (λ (b : List ℕ). page_of b k) spelled) in
       manifest_in-ok g image (block_of (0 ∷ [])) 0 m (sym page_is) refl snapshot
+
+-- a device with room for some extents has the selector
+pub roomy-below : (g : Geometry) (blocks size extents : ℕ) → IsTrue (extents_stand g blocks extents) → size ≡ blocks → 1 < size
+roomy-below g blocks size extents stands same =
+    let room : blocks_needed g extents ≤ blocks = leb-true (blocks_needed g extents) blocks (and_parts (nat_le 1 extents && nat_le extents 65536) (nat_le (blocks_needed g extents) blocks) stands).1 in
+    omega arith
+
+-- ---- what a commit promises, of a manifest in memory
+
+abbrev pub AnyMoment : Change → Header → State → State → Named → Type 0
+AnyMoment change header old new named = (shown : Image) → old.shown ≡ Some shown → ((left : Image) → MayLeave old left → Names named left) → Leaves (HasOldOrNew named (after_commit named.manifest change header) shown) old new
+
+abbrev pub Committed : State → State → Named → Named → Type 0
+Committed old new after named = (shown : Image) → old.shown ≡ Some shown → ((left : Image) → MayLeave old left → Names named left) → (left : Image) → MayLeave new left → HasNew after shown left
+
+-- a change that was made in memory, and may be committed
+pub record IsReady (g : Geometry) (area blocks : ℕ) (before : Header) (old : TrieView) (change : Change) (header : Header) (trie : TrieView) : Type 0 where
+  pub held : IsHeld g area before old
+  pub stands : IsTrue (extents_stand g blocks before.extents)
+  pub may : IsTrue (may_commit g.levels (record { header = before; trie = old.nodes }) change header)
+  pub writes : header.writes < 2 ^ 64
+  pub applied : trie ≡ record old { nodes = after_change old.nodes change }
+
+module _ (g : Geometry) (area blocks : ℕ) (before : Header) (old : TrieView) (change : Change) (header : Header) (trie : TrieView) (ready : IsReady g area blocks before old change header trie) where
+  pub ready-same : ◌≡◌ {A = Manifest} (record { header = header; trie = trie.nodes }) (after_commit (record { header = before; trie = old.nodes }) change header)
+  ready-same = ap (λ (v : TrieView). record { header = header; trie = v.nodes }) ready.applied
+
+  pub ready-stands : IsManifest g blocks (record { header = header; trie = trie.nodes })
+  ready-stands = subst (IsManifest g blocks) (sym ready-same) (next_stands (named_by g area before old.nodes) blocks change header ready.held.kept ready.stands ready.may ready.writes)
+
+  pub ready-held : (now : ℕ) → now < 2 → IsHeld g now header trie
+  ready-held now small = held_from g blocks now header trie ready.held.kept.geometry small (ap (λ (v : TrieView). v.levels) ready.applied ∙ ready.held.levels) ready-stands
+
+  pub ready-next : (bytes : List ℕ) → bytes ≡ snapshot_bytes (record { header = header; trie = trie.nodes }) → IsNext g area blocks bytes (named_by g area before old.nodes) (record { header = header; trie = trie.nodes })
+  ready-next bytes spelled = record { geometry = refl; area_is = refl; spelled = spelled; stands = ready-stands }

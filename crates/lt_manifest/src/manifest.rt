@@ -1,6 +1,6 @@
 //! The manifest in memory: its header and trie, and the area of the device that is current.
 
-ghost use Rattle.std.specs.Prelude.{◌≡◌, ℕ, ◌≤◌, Some, Ok, Err, IfOk, IsErrOf, OnOk, IsTrue};
+ghost use Rattle.std.specs.Prelude.{◌≡◌, ℕ, ◌^◌, ◌<◌, ◌≤◌, Some, Ok, Err, IfOk, IsErrOf, OnOk, IsTrue};
 ghost use Rattle.std.specs.Option.{ForSome};
 ghost use Rattle.lt_terms.specs.Bytes.{Image};
 ghost use Rattle.lt_terms.specs.Causes.{Rose};
@@ -177,10 +177,18 @@ impl Manifest {
         let mut page = Page::new(alloc)?;
         let mut bytes = snapshot_room(alloc)?;
         self.trie.apply(alloc, change)?;
-        self.header = *header;
+        self.header = kept(*header);
         spell(&mut bytes, &self.header, self.trie.nodes());
         replace(device, &self.geometry, self.area, &bytes, &mut page)?;
         self.area = 1 - self.area;
         Ok(())
     }
+}
+
+/// The same header, whose number of writes is one of 64 bits.
+fn kept(header: Header) -> Header
+    ensures same { result ≡ header }
+    ensures writes { result.writes < 2 ^ 64 }
+{
+    header
 }
