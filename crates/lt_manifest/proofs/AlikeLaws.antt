@@ -1,5 +1,5 @@
 -- Reading asks only of the bytes below the limit, and of the extents before only which they are.
-use Rattle.std.proofs.Common.{◌≡◌, ℕ, zero, suc, ◌+◌, ◌*◌, ◌^◌, ◌<◌, ◌≤◌, refl, sym, ap, subst, ◌∙◌, Bool, true, false, not, cond, ◌&&◌, List, [], ◌∷◌, ◌++◌, length, map, Option, Some, None, Result, Ok, Err, arith}
+use Rattle.std.proofs.Common.{◌≡◌, ℕ, zero, suc, ◌+◌, ◌*◌, ◌^◌, ◌<◌, ◌≤◌, refl, ap, ◌∙◌, Bool, true, false, not, cond, ◌&&◌, List, [], ◌∷◌, ◌++◌, map, Option, Some, Result, Ok, Err, arith}
 use Rattle.std.specs.Prelude.{nat_le, nat_lt, ◌==◌, if◌then◌else◌}
 use Rattle.std.specs.Int.{Width, w8, w16, w32, w64, byte_len, from_be_bytes}
 use Rattle.std.specs.List.{range_with_len}
@@ -7,9 +7,8 @@ use Rattle.std.proofs.lemmas.Bool.{leb-true}
 use Rattle.lt_tables.specs.Filter.{is_in}
 use Rattle.lt_format.specs.declared.node_id.NodeId.{NodeId}
 use Rattle.lt_format.specs.declared.geometry.Geometry.{Geometry}
-use Rattle.lt_format.specs.declared.header.Header.{Header}
-use Rattle.lt_format.specs.Trie.{Node, Trie, groups_for, node_extents}
-use Rattle.lt_format.specs.Snapshot.{field, number_in, follows, extents_at, node_read, nodes_read, front_read, Front, extents_stand, is_zero, always, id_of, extents_of, ◌>>=◌}
+use Rattle.lt_format.specs.Trie.{Node, Trie, groups_for}
+use Rattle.lt_format.specs.Snapshot.{field, number_in, follows, extents_at, node_read, nodes_read, front_read, extents_stand, is_zero, always, id_of, extents_of, ◌>>=◌}
 use Rattle.lt_manifest.proofs.ExtentLaws.{SameNumbers, same-more}
 
 range-alike : (f g : ℕ → ℕ) (a n : ℕ) → ((i : ℕ) → i < a + n → f i ≡ g i) → map f (range_with_len a n) ≡ map g (range_with_len a n)

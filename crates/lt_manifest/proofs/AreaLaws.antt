@@ -1,13 +1,13 @@
 -- What an area holds once its blocks are written.
-use Rattle.std.proofs.Common.{◌≡◌, ◌≢◌, ℕ, ◌+◌, ◌*◌, ◌/◌, ◌<◌, ◌≤◌, refl, sym, ap, subst, ◌∙◌, List, length, false, Option, Some, arith}
-use Rattle.lt_terms.specs.Bytes.{Image, block_at}
+use Rattle.std.proofs.Common.{◌≡◌, ℕ, ◌+◌, ◌≤◌, ap, subst, ◌∙◌, List, length, false, Option, Some, arith}
+use Rattle.lt_terms.specs.Bytes.{Image}
 use Rattle.lt_device.specs.Image.{SameOutside}
 use Rattle.lt_device.specs.State.{State, IsFit, synced}
 use Rattle.lt_device.specs.Moments.{MayLeave}
 use Rattle.lt_device.proofs.Steps.{sync_only}
 use Rattle.lt_format.specs.Layout.{area_block, edit_gate, edit_slots, gate_page, is_open}
-use Rattle.lt_manifest.specs.Moments.{EditsClosed, ShowsSameOutside}
-use Rattle.lt_manifest.specs.Written.{AreWritten, ComesFrom, HasArea, InArea, InEdits, page_of, page_count}
+use Rattle.lt_manifest.specs.Moments.{ShowsSameOutside}
+use Rattle.lt_manifest.specs.Written.{AreWritten, ComesFrom, HasArea, InEdits, page_of, page_count}
 
 pub same_some : {A : Type 0} (o : Option A) (x y : A) → o ≡ Some x → o ≡ Some y → x ≡ y
 same_some o x y one two = cc

@@ -1,15 +1,15 @@
 -- The images of a commit: the other area, sync, the selector, sync.
-use Rattle.std.proofs.Common.{◌≡◌, ◌⊎◌, inl, inr, ⊎_elim, ℕ, zero, suc, ◌+◌, ◌-◌, ◌%◌, ◌<◌, ◌≤◌, refl, sym, ap, subst, ◌∙◌, List, [], ◌∷◌, length, true, Some, arith}
+use Rattle.std.proofs.Common.{◌≡◌, ◌⊎◌, inl, inr, ⊎_elim, ℕ, zero, suc, ◌+◌, ◌-◌, ◌<◌, refl, sym, ap, subst, ◌∙◌, List, [], ◌∷◌, length, true, arith}
 use Rattle.lt_terms.specs.Bytes.{Image, block_at, block_of}
 use Rattle.lt_device.specs.Image.{SameOutside}
-use Rattle.lt_device.specs.State.{State, IsFit, Wrote, written, synced}
-use Rattle.lt_device.specs.Moments.{MayLeave, Leaves, IsNear, ConfinedTo}
+use Rattle.lt_device.specs.State.{State, IsFit, written, synced}
+use Rattle.lt_device.specs.Moments.{MayLeave, Leaves, ConfinedTo}
 use Rattle.lt_device.proofs.Images.{same_outside_joins, same_outside_widens}
 use Rattle.lt_device.proofs.Runs.{begins, joins, weakens, confined_keeps}
 use Rattle.lt_device.proofs.Steps.{written_shown, sync_only}
 use Rattle.lt_format.specs.declared.geometry.Geometry.{Geometry}
-use Rattle.lt_format.specs.Layout.{is_geometry, selected, selector_block, area_block, edit_gate, edit_slots, is_open}
-use Rattle.lt_format.specs.Snapshot.{Manifest, IsManifest, snapshot_bytes, snapshot_page, pages_of}
+use Rattle.lt_format.specs.Layout.{is_geometry, selected, area_block, edit_gate, is_open}
+use Rattle.lt_format.specs.Snapshot.{Manifest, IsManifest}
 use Rattle.lt_format.specs.Naming.{Named, InManifest}
 use Rattle.lt_manifest.specs.Moments.{Names, HasNew, HasOldOrNew, EditsClosed}
 use Rattle.lt_manifest.specs.Next.{IsNext}

@@ -1,7 +1,7 @@
 -- Extent numbers that are read one after another.
-use Rattle.std.proofs.Common.{◌≡◌, ℕ, zero, suc, ◌+◌, ◌-◌, ◌<◌, ◌≤◌, refl, sym, ap, subst, ◌∙◌, Bool, true, false, not, cond, ◌&&◌, ◌||◌, List, [], ◌∷◌, ◌++◌, length, Result, Ok, Err, IsErrOf, arith, append-nil, append_assoc}
-use Rattle.std.specs.Prelude.{◌==◌, nat_lt, nat_le, slice_index}
-use Rattle.std.specs.Int.{w32, byte_len}
+use Rattle.std.proofs.Common.{◌≡◌, ℕ, zero, suc, ◌+◌, ◌-◌, ◌<◌, ◌≤◌, refl, sym, ap, ◌∙◌, Bool, true, false, not, ◌&&◌, ◌||◌, List, [], ◌∷◌, ◌++◌, Result, Ok, Err, arith, append-nil, append_assoc}
+use Rattle.std.specs.Prelude.{◌==◌, nat_lt}
+use Rattle.std.specs.Int.{w32}
 use Rattle.std.proofs.lemmas.List.Folds.{list_any-append}
 use Rattle.lt_tables.specs.Filter.{is_in}
 use Rattle.lt_format.specs.Snapshot.{field, number_in, extents_at, ◌>>=◌}

@@ -1,18 +1,18 @@
 -- What a manifest in memory is after it was read, and after a change.
-use Rattle.std.proofs.Common.{◌≡◌, ⊎_elim, ℕ, zero, suc, ◌+◌, ◌-◌, ◌*◌, ◌/◌, ◌^◌, ◌<◌, ◌≤◌, refl, sym, ap, subst, ◌∙◌, Bool, true, ◌&&◌, List, [], ◌∷◌, length, Option, Some, Result, Ok, Err, IsTrue, arith}
+use Rattle.std.proofs.Common.{◌≡◌, ℕ, ◌+◌, ◌/◌, ◌^◌, ◌<◌, ◌≤◌, refl, sym, ap, subst, ◌∙◌, true, ◌&&◌, List, [], ◌∷◌, length, Some, Ok, Err, IsTrue, arith}
 use Rattle.std.specs.Prelude.{nat_le, ◌==◌}
-use Rattle.std.proofs.lemmas.Bool.{and_parts, and_from, leb-true, eqb-true}
+use Rattle.std.proofs.lemmas.Bool.{and_parts, leb-true, eqb-true}
 use Rattle.lt_terms.specs.Bytes.{Image, block_at, block_of}
-use Rattle.lt_device.specs.State.{State, IsFit, Wrote, written}
-use Rattle.lt_device.proofs.Images.{block_at-set_other, block_at-set_same}
+use Rattle.lt_device.specs.State.{State, Wrote, written}
+use Rattle.lt_device.proofs.Images.{block_at-set_other}
 use Rattle.lt_device.proofs.Steps.{written_is, written_shown}
 use Rattle.lt_device.proofs.Fits.{wrote_fit}
 use Rattle.lt_format.specs.declared.geometry.Geometry.{Geometry}
 use Rattle.lt_format.specs.declared.header.Header.{Header}
 use Rattle.lt_format.specs.Layout.{is_geometry, blocks_needed, selected, selector_block, area_block, edit_gate, is_open}
-use Rattle.lt_format.specs.Trie.{Trie, IsTrie, all_below}
+use Rattle.lt_format.specs.Trie.{IsTrie, all_below}
 use Rattle.lt_format.specs.Changes.{Change, flush, deal, rewrite, new_extents, fits, after_change}
-use Rattle.lt_format.specs.Snapshot.{Manifest, IsManifest, snapshot_in, snapshot_bytes, extents_stand, pages_of, snapshot_page, ◌>>=◌}
+use Rattle.lt_format.specs.Snapshot.{Manifest, IsManifest, snapshot_in, snapshot_bytes, extents_stand}
 use Rattle.lt_format.specs.Naming.{Named, manifest_in, may_commit, after_commit, log_moves}
 use Rattle.lt_format.proofs.KeepLaws.{after_change-trie}
 use Rattle.lt_format.proofs.SnapshotReadLaws.{pages-fit, pages-read}

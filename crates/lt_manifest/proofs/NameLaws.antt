@@ -1,16 +1,15 @@
 -- What a change of blocks makes of the manifest that an image names.
-use Rattle.std.proofs.Common.{◌≡◌, ◌≢◌, ◌⊎◌, inl, inr, ⊎_elim, ℕ, zero, suc, ◌+◌, ◌*◌, ◌/◌, ◌%◌, ◌<◌, ◌≤◌, refl, sym, ap, subst, ◌∙◌, Bool, true, false, cond, ◌&&◌, List, [], ◌∷◌, ◌++◌, length, None, Result, Ok, Err, IsTrue, arith}
-use Rattle.std.specs.Prelude.{get_or, nat_le, ◌==◌, slice_index, if◌then◌else◌}
+use Rattle.std.proofs.Common.{◌≡◌, ℕ, ◌+◌, ◌*◌, ◌/◌, ◌%◌, ◌<◌, ◌≤◌, refl, sym, ap, ◌∙◌, Bool, true, false, cond, ◌&&◌, List, [], length, None, Result, Ok, Err, arith}
+use Rattle.std.specs.Prelude.{get_or, nat_le, ◌==◌}
 use Rattle.std.specs.Int.{Width, w8, w16, w32, w64, byte_len}
 use Rattle.std.proofs.lemmas.Bool.{and_parts, leb-true}
 use Rattle.lt_terms.specs.Bytes.{Image, block_at}
 use Rattle.lt_device.specs.Image.{SameOutside}
 use Rattle.lt_format.specs.declared.geometry.Geometry.{Geometry}
-use Rattle.lt_format.specs.declared.header.Header.{Header}
-use Rattle.lt_format.specs.Layout.{is_geometry, area_block, selected, selector_block, geometry_of, blocks_needed}
+use Rattle.lt_format.specs.Layout.{is_geometry, area_block, selected, selector_block, geometry_of}
 use Rattle.lt_format.specs.Trie.{Trie}
-use Rattle.lt_format.specs.Snapshot.{Manifest, Front, field, number_in, front_read, nodes_read, snapshot_read, snapshot_in, area_byte, as_block, extents_stand, is_zero, always, total_offset, IsManifest, pages_of, snapshot_bytes, snapshot_page, ◌>>=◌}
-use Rattle.lt_format.specs.Naming.{Named, geometry_in, manifest_in, manifest_of, roomy, InManifest}
+use Rattle.lt_format.specs.Snapshot.{Manifest, Front, field, number_in, front_read, snapshot_read, snapshot_in, area_byte, as_block, extents_stand, is_zero, always, total_offset, IsManifest, pages_of, snapshot_page, ◌>>=◌}
+use Rattle.lt_format.specs.Naming.{Named, geometry_in, manifest_in, manifest_of, roomy}
 use Rattle.lt_format.proofs.SnapshotReadLaws.{pages-read}
 use Rattle.lt_manifest.specs.Area.{after_front}
 use Rattle.lt_manifest.specs.Moments.{Names}

@@ -1,11 +1,10 @@
 -- The bytes of an area, as they are read block by block.
-use Rattle.std.proofs.Common.{◌≡◌, ⊎_elim, ℕ, ◌+◌, ◌-◌, ◌*◌, ◌/◌, ◌%◌, ◌<◌, ◌≤◌, refl, sym, ap, subst, ◌∙◌, List, [], ◌∷◌, ◌++◌, length, take, Bool, true, false, cond, ◌&&◌, None, Result, Ok, Err, arith, length-append}
+use Rattle.std.proofs.Common.{◌≡◌, ⊎_elim, ℕ, ◌+◌, ◌*◌, ◌/◌, ◌%◌, ◌<◌, ◌≤◌, refl, sym, ap, ◌∙◌, List, [], ◌++◌, length, take, true, false, cond, ◌&&◌, None, Result, Ok, Err, arith, length-append}
 use Rattle.std.specs.Prelude.{get_or, slice_index, nat_le, ◌==◌}
 use Rattle.std.proofs.lemmas.Bool.{cases_lt, eq-eqb, ne_eqb, and_parts, leb-true}
 use Rattle.std.proofs.lemmas.List.{get_or-take, get_or_append_left, get_or-append-add}
 use Rattle.lt_terms.specs.Bytes.{Image, block_at}
 use Rattle.lt_format.specs.declared.geometry.Geometry.{Geometry}
-use Rattle.lt_format.specs.declared.header.Header.{Header}
 use Rattle.lt_format.specs.Layout.{area_block, blocks_needed}
 use Rattle.lt_format.specs.Trie.{Trie}
 use Rattle.lt_format.specs.Snapshot.{Manifest, Front, front_read, nodes_read, snapshot_read, snapshot_in, as_block, area_byte, total_offset, extents_stand, ◌>>=◌}

@@ -1,10 +1,10 @@
 -- The bytes of a snapshot, as they are spelled one node and one number after another.
-use Rattle.std.proofs.Common.{◌≡◌, ℕ, suc, ◌+◌, ◌*◌, ◌<◌, ◌≤◌, refl, sym, ap, subst, ◌∙◌, List, [], ◌∷◌, ◌++◌, length, drop, arith, length-append, append_assoc}
+use Rattle.std.proofs.Common.{◌≡◌, ℕ, suc, ◌+◌, ◌*◌, ◌<◌, ◌≤◌, sym, ap, ◌∙◌, List, [], ◌∷◌, ◌++◌, length, drop, arith, length-append, append_assoc}
 use Rattle.std.specs.Prelude.{get_or}
 use Rattle.std.proofs.Math.Seq.{drop-cons}
 use Rattle.lt_terms.specs.Bytes.{u32}
 use Rattle.lt_format.specs.declared.node_id.NodeId.{NodeId}
-use Rattle.lt_format.specs.Trie.{Node, Trie, node_extents}
+use Rattle.lt_format.specs.Trie.{Node, Trie}
 use Rattle.lt_format.specs.Snapshot.{node_bytes, nodes_bytes, numbers}
 use Rattle.lt_format.proofs.NodeReadLaws.{length-node}
 

@@ -1,10 +1,10 @@
 -- What the images of a commit name, at each moment and at its end.
-use Rattle.std.specs.Prelude.{◌≡◌, ◌⊎◌, ℕ, ◌<◌, Bool, false, Option, Some, Ok}
+use Rattle.std.specs.Prelude.{◌≡◌, ◌⊎◌, ℕ, ◌<◌, false, Option, Some, Ok}
 use Rattle.lt_terms.specs.Bytes.{Image, block_at}
 use Rattle.lt_device.specs.Image.{SameOutside}
 use Rattle.lt_format.specs.Layout.{is_open, edit_gate, edit_slots}
 use Rattle.lt_format.specs.Snapshot.{Manifest}
-use Rattle.lt_format.specs.Naming.{Named, HasManifest, InManifest, manifest_of}
+use Rattle.lt_format.specs.Naming.{Named, InManifest, manifest_of}
 
 -- the image has this geometry, and names this manifest in the area that is current
 pub record Names (named : Named) (image : Image) : Type 0 where

@@ -4,7 +4,7 @@ use Rattle.lt_format.specs.declared.geometry.Geometry.{Geometry}
 use Rattle.lt_format.specs.Layout.{is_geometry, area_block, snapshot_blocks}
 use Rattle.lt_format.specs.declared.header.Header.{Header}
 use Rattle.lt_format.specs.Trie.{Trie, IsTrie}
-use Rattle.lt_format.specs.Snapshot.{Manifest, IsManifest}
+use Rattle.lt_format.specs.Snapshot.{IsManifest}
 use Rattle.lt_format.specs.Naming.{Named}
 use Rattle.lt_node.specs.View.{TrieView}
 

@@ -2,7 +2,7 @@
 use Rattle.std.specs.Prelude.{◌≡◌, ℕ, ◌+◌, ◌-◌, ◌*◌, ◌/◌, ◌<◌, ◌≤◌, List, Option, Some, length, slice_range}
 use Rattle.lt_terms.specs.Bytes.{Image, block_at, block_len, block_of}
 use Rattle.lt_device.specs.Image.{SameOutside}
-use Rattle.lt_format.specs.Layout.{area_block, snapshot_blocks, edit_gate, edit_slots}
+use Rattle.lt_format.specs.Layout.{area_block, edit_gate, edit_slots}
 use Rattle.lt_manifest.specs.Moments.{EditsClosed}
 
 -- block k of these bytes: those that lie there, and zeros

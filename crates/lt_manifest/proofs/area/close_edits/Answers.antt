@@ -1,5 +1,5 @@
-use Rattle.std.proofs.Common.{◌≡◌, ℕ, ◌+◌, ◌*◌, ◌<◌, ◌∙◌, sym, ap, subst, List, false, arith}
-use Rattle.lt_device.specs.State.{State, written}
+use Rattle.std.proofs.Common.{◌<◌, ◌∙◌, ap, false, arith}
+use Rattle.lt_device.specs.State.{State}
 use Rattle.lt_device.proofs.Runs.{confined_writes}
 use Rattle.lt_format.specs.Layout.{edit_gate, gate_page}
 use Rattle.lt_manifest.specs.Written.{InEdits}

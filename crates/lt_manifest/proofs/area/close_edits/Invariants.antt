@@ -1,8 +1,8 @@
-use Rattle.std.proofs.Common.{◌≡◌, ◌+◌, ◌≤◌, false}
+use Rattle.std.proofs.Common.{◌≡◌, ◌≤◌, false}
 use Rattle.lt_device.specs.Moments.{ConfinedTo}
-use Rattle.lt_format.specs.Layout.{area_block, edit_gate, gate_page}
+use Rattle.lt_format.specs.Layout.{edit_gate, gate_page}
 use Rattle.lt_manifest.specs.Moments.{ShowsSameOutside}
-use Rattle.lt_manifest.specs.Written.{AreWritten, ComesFrom, InArea, InEdits, page_of}
+use Rattle.lt_manifest.specs.Written.{AreWritten, ComesFrom, InEdits}
 use Rattle.lt_manifest.proofs.area.close_edits.Given as goal
 
 -- the blocks so far are written

@@ -1,4 +1,4 @@
-use Rattle.std.proofs.Common.{◌≡◌, ℕ, ◌∙◌, ap, subst, sym, Option}
+use Rattle.std.proofs.Common.{subst, sym, Option}
 use Rattle.std.proofs.lemmas.Result.{on_ok_weaker}
 use Rattle.lt_terms.specs.Bytes.{Image}
 use Rattle.lt_device.proofs.Runs.{syncs}

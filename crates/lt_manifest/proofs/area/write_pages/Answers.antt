@@ -1,5 +1,5 @@
-use Rattle.std.proofs.Common.{◌≡◌, ℕ, ◌+◌, ◌*◌, ◌<◌, ◌∙◌, sym, ap, subst, List, length, arith}
-use Rattle.lt_device.specs.State.{State, written}
+use Rattle.std.proofs.Common.{◌≡◌, ◌+◌, ◌<◌, ◌∙◌, ap, arith}
+use Rattle.lt_device.specs.State.{State}
 use Rattle.lt_device.proofs.Runs.{confined_writes}
 use Rattle.lt_format.specs.Layout.{area_block}
 use Rattle.lt_manifest.specs.Written.{InArea, page_of}

@@ -1,6 +1,6 @@
-use Rattle.std.proofs.Common.{◌≡◌, ℕ, ◌∙◌, sym, ap, subst, List, ◌∷◌, ◌++◌, [], Ok, Err, arith, length, length-append}
+use Rattle.std.proofs.Common.{◌≡◌, ◌∙◌, sym, ap, ◌∷◌, ◌++◌, [], Err, arith, length, length-append}
 use Rattle.std.proofs.lemmas.Result.{err_from_is_err_and}
-use Rattle.lt_manifest.proofs.ExtentLaws.{part-none, part-more, part-fault, part-all, IsPartRead}
+use Rattle.lt_manifest.proofs.ExtentLaws.{part-none, part-more, part-fault, part-all}
 use Rattle.lt_manifest.proofs.FaultLaws.{handed_field}
 use Rattle.lt_manifest.proofs.extents.read_extents.Goals as goal
 

@@ -1,7 +1,6 @@
-use Rattle.std.proofs.Common.{◌≡◌, ℕ, ◌∙◌, ap, subst, List, ◌++◌, Ok, Err, arith}
+use Rattle.std.proofs.Common.{◌∙◌, ap, ◌++◌, Err, arith}
 use Rattle.std.proofs.lemmas.Result.{err_from_is_err_and}
 use Rattle.lt_manifest.specs.declared.fault.ReadFault.TheVariants.{Field}
-use Rattle.lt_manifest.specs.Marks.{AreMarks}
 use Rattle.lt_manifest.proofs.FreshLaws.{are_new-from, new-joined, extents_at-new}
 use Rattle.lt_format.specs.Trie.{named}
 use Rattle.lt_manifest.proofs.NodeLaws.{shaped-from}

@@ -1,6 +1,6 @@
 use Rattle.std.proofs.Common.{◌≡◌, ℕ, ◌∙◌, sym, ap, subst, List, ◌++◌, IsTrue, arith}
 use Rattle.std.proofs.lemmas.Result.{err_from_is_err_and}
-use Rattle.lt_format.specs.Trie.{Node, Trie, named, node_extents, with_node}
+use Rattle.lt_format.specs.Trie.{Trie, named, with_node}
 use Rattle.lt_format.specs.Changes.{are_new}
 use Rattle.lt_node.specs.View.{TrieView}
 use Rattle.lt_manifest.specs.declared.fault.ReadFault.TheVariants.{Field}

@@ -1,5 +1,4 @@
-use Rattle.std.proofs.Common.{◌≡◌, ℕ, ◌+◌, ◌*◌, ◌∙◌, sym, ap, List, ◌++◌, length, arith, length-append}
-use Rattle.lt_terms.specs.Bytes.{block_at}
+use Rattle.std.proofs.Common.{◌≡◌, ◌∙◌, ap, length, arith, length-append}
 use Rattle.lt_device.specs.State.{State}
 use Rattle.lt_manifest.proofs.ReadingLaws.{bytes-more}
 use Rattle.lt_manifest.proofs.reading.read_bytes.Goals as goal

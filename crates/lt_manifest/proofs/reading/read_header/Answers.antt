@@ -1,8 +1,6 @@
-use Rattle.std.proofs.Common.{◌≡◌, ℕ, ◌+◌, ◌/◌, ◌<◌, ◌∙◌, sym, ap, subst, List, Ok, Err, arith}
-use Rattle.std.specs.Prelude.{slice_index, take}
+use Rattle.std.proofs.Common.{◌≡◌, ℕ, ◌<◌, ◌∙◌, ap, List, arith}
+use Rattle.std.specs.Prelude.{take}
 use Rattle.lt_terms.specs.Bytes.{block_at}
-use Rattle.lt_format.specs.Layout.{area_block}
-use Rattle.lt_format.specs.Snapshot.{front_read, area_byte}
 use Rattle.lt_manifest.proofs.ReadingLaws.{header-read}
 use Rattle.lt_manifest.proofs.reading.read_header.Goals as goal
 

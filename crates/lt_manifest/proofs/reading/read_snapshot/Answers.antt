@@ -1,11 +1,10 @@
-use Rattle.std.proofs.Common.{◌≡◌, ℕ, ◌+◌, ◌*◌, ◌/◌, ◌<◌, ◌≤◌, ◌∙◌, sym, ap, subst, List, length, Ok, Err, arith}
+use Rattle.std.proofs.Common.{◌≡◌, ℕ, ◌+◌, ◌/◌, ◌≤◌, ◌∙◌, sym, ap, subst, List, length, Err, arith}
 use Rattle.std.specs.Prelude.{take}
 use Rattle.std.proofs.lemmas.Result.{err_from_is_err_and}
 use Rattle.lt_terms.specs.Bytes.{block_at}
 use Rattle.lt_format.specs.Layout.{area_block}
 use Rattle.lt_manifest.specs.Area.{AreBytesFrom}
 use Rattle.lt_device.specs.State.{State}
-use Rattle.lt_layout.specs.declared.fault.OpenFault.{OpenFault}
 use Rattle.lt_layout.specs.declared.fault.OpenFault.TheVariants.{Damaged}
 use Rattle.lt_manifest.proofs.FaultLaws.{handed_open}
 use Rattle.lt_manifest.proofs.ReadingLaws.{few_extents, snapshot_in-front_fault, snapshot_in-ok, snapshot_in-fault}

@@ -1,4 +1,4 @@
-use Rattle.std.proofs.Common.{◌≡◌, ◌∙◌, ap, refl, subst, sym, Option, arith}
+use Rattle.std.proofs.Common.{◌≡◌, refl, subst, sym, Option, arith}
 use Rattle.std.proofs.lemmas.Result.{on_ok_weaker}
 use Rattle.lt_terms.specs.Bytes.{Image}
 use Rattle.lt_device.proofs.Runs.{syncs, confined_begins, confined_writes}

@@ -1,5 +1,4 @@
-use Rattle.std.proofs.Common.{◌≡◌, ℕ, ◌+◌, ◌*◌, ap, length, arith}
-use Rattle.lt_format.specs.Snapshot.{node_bytes}
+use Rattle.std.proofs.Common.{ap, length, arith}
 use Rattle.lt_manifest.proofs.SpellingLaws.{length-entry}
 use Rattle.lt_manifest.proofs.spelling.node_len.Goals as goal
 

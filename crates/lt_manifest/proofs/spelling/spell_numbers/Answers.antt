@@ -1,5 +1,4 @@
-use Rattle.std.proofs.Common.{◌≡◌, ℕ, ◌+◌, ◌*◌, ◌≤◌, ◌∙◌, sym, ap, List, ◌++◌, length, drop, arith}
-use Rattle.lt_terms.specs.Bytes.{u32}
+use Rattle.std.proofs.Common.{ℕ, ◌+◌, ◌∙◌, sym, ap, List, ◌++◌, drop, arith}
 use Rattle.lt_format.specs.Snapshot.{numbers}
 use Rattle.lt_manifest.proofs.SpellingLaws.{numbers-next, spelled-more, spelled-fits}
 use Rattle.lt_manifest.proofs.spelling.spell_numbers.Goals as goal

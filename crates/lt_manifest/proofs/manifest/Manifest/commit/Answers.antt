@@ -1,5 +1,4 @@
-use Rattle.std.proofs.Common.{◌≡◌, ℕ, ◌-◌, ◌<◌, ◌≤◌, ◌∙◌, ap, sym, subst, List, length, refl, IsTrue, arith}
-use Rattle.lt_terms.specs.Bytes.{Image}
+use Rattle.std.proofs.Common.{◌≡◌, ℕ, ◌-◌, ◌≤◌, ◌∙◌, ap, sym, subst, length, IsTrue, arith}
 use Rattle.lt_device.specs.Moments.{Leaves}
 use Rattle.lt_format.specs.declared.header.Header.{Header}
 use Rattle.lt_format.specs.Snapshot.{Manifest, snapshot_bytes, extents_stand}
@@ -7,7 +6,7 @@ use Rattle.lt_format.specs.Trie.{Trie}
 use Rattle.lt_format.specs.Naming.{Named, may_commit, after_commit}
 use Rattle.lt_node.specs.Changing.{change_of}
 use Rattle.lt_manifest.specs.Opened.{named_by}
-use Rattle.lt_manifest.specs.Moments.{HasNew, HasOldOrNew}
+use Rattle.lt_manifest.specs.Moments.{HasOldOrNew}
 use Rattle.lt_manifest.proofs.ManifestLaws.{IsReady, ready-same, ready-stands, ready-held, ready-next, bytes-fit, AnyMoment, Committed}
 use Rattle.lt_manifest.proofs.manifest.Manifest.commit.Goals as goal
 

@@ -1,6 +1,5 @@
-use Rattle.std.proofs.Common.{◌≡◌, ℕ, ◌∙◌, ap, sym, subst, List, length, refl, Some, IsTrue, ◌<◌, arith}
-use Rattle.std.proofs.lemmas.Result.{on_ok_weaker}
-use Rattle.lt_device.proofs.Runs.{confined_within, confined_widens, confined_writes}
+use Rattle.std.proofs.Common.{◌∙◌, ap, sym, subst, length, IsTrue, arith}
+use Rattle.lt_device.proofs.Runs.{confined_widens, confined_writes}
 use Rattle.lt_format.specs.Snapshot.{extents_stand}
 use Rattle.lt_format.specs.Naming.{InManifest}
 use Rattle.lt_manifest.specs.Opened.{fresh}
