@@ -81,7 +81,7 @@ fn extents_field(geometry: &Geometry, blocks: u64, bytes: &[u8]) -> Result<(u32,
 }
 
 /// Whether a device of so many blocks has room for so many extents.
-fn has_room(geometry: &Geometry, blocks: u64, extents: u32) -> bool
+pub fn has_room(geometry: &Geometry, blocks: u64, extents: u32) -> bool
     ensures { result ≡ extents_stand geometry.now blocks extents }
 {
     1 <= extents && extents <= 65_536 && geometry.needed(extents) <= blocks

@@ -13,6 +13,8 @@ mod reading;
 mod replacing;
 mod shape;
 mod spelling;
+#[cfg(test)]
+mod tests;
 
 pub use geometry::read_geometry;
 pub use lt_layout::OpenFault;
