@@ -12,4 +12,5 @@ pub mod PageLaws
 pub mod ReadingLaws
 pub mod ShapeLaws
 pub mod SpellingLaws
+pub mod TestLaws
 pub mod WriteLaws

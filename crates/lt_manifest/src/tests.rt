@@ -1,4 +1,5 @@
-ghost use Rattle.std.specs.Prelude.{◌≡◌, IfOk, length};
+ghost use Rattle.std.specs.Prelude.{◌≡◌, ◌&&◌, IfOk};
+ghost use Rattle.std.specs.List.{list_all};
 ghost use Rattle.lt_format.specs.Trie.{all_below};
 ghost use Rattle.lt_format.specs.Changes.{new_extents};
 ghost use Rattle.lt_format.specs.Naming.{log_moves, may_commit};
@@ -48,16 +49,21 @@ fn all_below(limit: u32, list: &[u32]) -> bool
     list.iter().all(|number| *number < limit)
 }
 
+fn children_below(limit: u32, children: &[ChildChange]) -> bool
+    ensures { result ≡ list_all (λ c. all_below limit c.tables && all_below limit c.groups) children.now }
+{
+    children
+        .iter()
+        .all(|child| all_below(limit, child.tables.list()) && all_below(limit, child.groups.list()))
+}
+
 /// Whether the new extents of a change are below a limit.
 fn new_below(limit: u32, change: &Change) -> bool
     ensures { result ≡ all_below limit (new_extents (change_of change.now)) }
 {
     match change {
         Change::Flush { tables } => all_below(limit, tables.list()),
-        Change::Deal { children, .. } => children
-            .list()
-            .iter()
-            .all(|child| all_below(limit, child.tables.list()) && all_below(limit, child.groups.list())),
+        Change::Deal { children, .. } => children_below(limit, children.list()),
         Change::Rewrite { tables, groups, .. } => {
             all_below(limit, tables.list()) && all_below(limit, groups.list())
         }
@@ -125,15 +131,18 @@ fn flush<D: Device>(
     commit(alloc, device, manifest, &Change::Flush { tables }, &header)
 }
 
-/// The first bytes of a block.
-fn front<D: Device>(alloc: Global, device: &mut D, block: u64) -> Result<[u8; 64], OpenFault> {
+/// Whether a block begins with these bytes.
+fn begins<D: Device>(
+    alloc: Global,
+    device: &mut D,
+    block: u64,
+    bytes: &[u8],
+) -> Result<bool, OpenFault> {
     let mut page = Page::new(alloc)?;
     if block < device.blocks() {
         device.read(block, &mut page)?;
     }
-    let mut front = [0; 64];
-    front.copy_from_slice(&page.bytes()[..64]);
-    Ok(front)
+    Ok(page.bytes().starts_with(bytes))
 }
 
 /// Puts bytes into a block.
@@ -171,8 +180,8 @@ fn a_fresh_snapshot_is_spelled_in_40_bytes(rt: HostRuntime) -> Result<(), Fail> 
     want[0] = 1;
     want[7] = 1;
     want[23] = 40;
-    assert_eq!(rt; front(alloc, &mut device, 2)?, want);
-    assert_eq!(rt; front(alloc, &mut device, 1)?, [0; 64]);
+    assert!(rt; begins(alloc, &mut device, 2, &want)?);
+    assert!(rt; begins(alloc, &mut device, 1, &[0; 64])?);
     assert_eq!(rt; root(alloc, &mut device)?.len(), 0);
     Ok(())
 }
@@ -285,33 +294,35 @@ fn a_deal_and_a_rewriting_are_read_again(rt: HostRuntime) -> Result<(), Fail> {
     let tables = vec![in alloc; 0, 1]?;
     assert_eq!(rt; flush(alloc, &mut device, &mut manifest, tables, 5), Ok(()));
     assert_eq!(rt; deal(alloc, &mut device, &mut manifest), Ok(()));
-    let dealt: [(u8, u16, &[u32], &[u32], u32); 3] = [
-        (0, 0, &[1], &[], 0),
-        (1, 3, &[2], &[3], 0),
-        (1, 5, &[4], &[5], 0),
-    ];
-    let rewritten: [(u8, u16, &[u32], &[u32], u32); 3] = [
-        (0, 0, &[1], &[], 0),
-        (1, 3, &[6, 7], &[8], 2),
-        (1, 5, &[4], &[5], 0),
-    ];
-    for (rows, second) in [(&dealt, false), (&rewritten, true)] {
-        if second {
-            assert_eq!(rt; rewrite(alloc, &mut device, &mut manifest), Ok(()));
-        }
-        let read = open(alloc, &mut device)?;
-        assert_eq!(rt; read.trie().nodes().len(), 3);
-        for (level, number, tables, groups, base) in rows {
-            let node = NodeId {
-                level: *level,
-                number: *number,
-            };
-            assert_eq!(rt; read.trie().pile(node), *tables);
-            assert_eq!(rt; read.trie().groups(node), *groups);
-            assert_eq!(rt; read.trie().base(node), *base);
+    assert_eq!(rt;
+        spelled(alloc, &mut device)?.as_slice(),
+        [0, 0, 0, 1, 1, 1, 3, 0, 1, 2, 3, 1, 5, 0, 1, 4, 5].as_slice()
+    );
+    assert_eq!(rt; rewrite(alloc, &mut device, &mut manifest), Ok(()));
+    assert_eq!(rt;
+        spelled(alloc, &mut device)?.as_slice(),
+        [0, 0, 0, 1, 1, 1, 3, 2, 2, 6, 7, 8, 1, 5, 0, 1, 4, 5].as_slice()
+    );
+    Ok(())
+}
+
+/// Of each node that the device names: its level, its number, its base, how many tables it has, its
+/// tables and its groups.
+fn spelled<D: Device>(alloc: Global, device: &mut D) -> Result<Vec<u32>, OpenFault> {
+    let manifest = open(alloc, device)?;
+    let mut all = Vec::new(alloc);
+    for entry in manifest.trie().nodes() {
+        let NodeId { level, number } = entry.node();
+        let tables = entry.tables();
+        let front = [level as u32, number as u32, entry.base(), tables.len().min(99) as u32];
+        let full = all.extend_from_slice(&front).is_err()
+            || all.extend_from_slice(tables).is_err()
+            || all.extend_from_slice(entry.groups()).is_err();
+        if full {
+            return Err(OpenFault::NoMemory);
         }
     }
-    Ok(())
+    Ok(all)
 }
 
 #[test]
