@@ -8,9 +8,7 @@ use Rattle.lt_device.proofs.Steps.{sync_only}
 use Rattle.lt_format.specs.Layout.{area_block, edit_gate, edit_slots, gate_page, is_open}
 use Rattle.lt_manifest.specs.Moments.{ShowsSameOutside}
 use Rattle.lt_manifest.specs.Written.{AreWritten, ComesFrom, HasArea, InEdits, page_of, page_count}
-
-pub same_some : {A : Type 0} (o : Option A) (x y : A) → o ≡ Some x → o ≡ Some y → x ≡ y
-same_some o x y one two = cc
+use Rattle.lt_manifest.proofs.WriteLaws.{same_some}
 
 -- the snapshot's blocks stay while the edit gates are closed
 pub area-whole : (area : ℕ) (bytes : List ℕ) (mid new : Option Image) → length bytes ≤ 1249280 → AreWritten (λ k. area_block area + k) (page_of bytes) (page_count bytes) mid → ComesFrom (InEdits area) mid new

@@ -1,7 +1,7 @@
 -- Extent numbers that were read are new.
 use Rattle.std.proofs.Common.{◌≡◌, ℕ, zero, suc, ◌+◌, ◌≤◌, refl, sym, ap, subst, ◌∙◌, Bool, true, false, not, cond, ◌&&◌, ◌||◌, List, [], ◌∷◌, ◌++◌, Result, Ok, Err, IsTrue, arith}
 use Rattle.std.specs.Prelude.{nat_le, nat_lt, ◌==◌}
-use Rattle.std.specs.Int.{w32, byte_len}
+use Rattle.std.specs.Int.{Width, w32, byte_len}
 use Rattle.std.specs.List.{list_all}
 use Rattle.std.proofs.lemmas.Bool.{and_parts, and_from, true≢false, not-true, not_from_false, ne_eqb, eqb-false}
 use Rattle.std.proofs.lemmas.List.Folds.{list_all-append}
@@ -37,22 +37,22 @@ apart-parts x before (y ∷ xs) h =
     let other : (y == x) ≡ false = flip x y head.0 in
     (and_from (not (is_in y before)) (none_in before xs) (not_from_false _ head.1) rest.0, rw (other, rest.1) refl)
 
-bind_is : {A B : Type 0} (r : Result A ℕ) (f : A → Result B ℕ) (b : B) → (r >>= f) ≡ Ok b → (a : A) × (r ≡ Ok a) × (f a ≡ Ok b)
+pub bind_is : {A B : Type 0} (r : Result A ℕ) (f : A → Result B ℕ) (b : B) → (r >>= f) ≡ Ok b → (a : A) × (r ≡ Ok a) × (f a ≡ Ok b)
 bind_is (Ok a) f b h = (a, refl, h)
 bind_is {A} {B} (Err e) f b h = absurd (no_ok h)
   where
     no_ok : ◌≡◌ {A = Result B ℕ} (Err e) (Ok b) → ⊥
     no_ok h = cc
 
-same_ok : {A : Type 0} (x y : A) → ◌≡◌ {A = Result A ℕ} (Ok x) (Ok y) → x ≡ y
+pub same_ok : {A : Type 0} (x y : A) → ◌≡◌ {A = Result A ℕ} (Ok x) (Ok y) → x ≡ y
 same_ok x y h = cc
 
 -- a field that stands
-field-passes : (bytes : ℕ → ℕ) (limit : ℕ) (stands : ℕ → Bool) (at : ℕ) (x : ℕ × ℕ) → field bytes limit w32 stands at ≡ Ok x → stands x.0 ≡ true
-field-passes bytes limit stands at x h = by_test (nat_le (at + byte_len w32) limit) (stands (number_in w32 bytes at)) refl h
+pub field-passes : (w : Width) (bytes : ℕ → ℕ) (limit : ℕ) (stands : ℕ → Bool) (at : ℕ) (x : ℕ × ℕ) → field bytes limit w stands at ≡ Ok x → stands x.0 ≡ true
+field-passes w bytes limit stands at x h = by_test (nat_le (at + byte_len w) limit) (stands (number_in w bytes at)) refl h
   where
-    by_test : (a b : Bool) → stands (number_in w32 bytes at) ≡ b → cond {A = Result (ℕ × ℕ) ℕ} (a && b) (Ok (number_in w32 bytes at, at + byte_len w32)) (Err at) ≡ Ok x → stands x.0 ≡ true
-    by_test true true e h = let same : number_in w32 bytes at ≡ x.0 = ap (λ (p : ℕ × ℕ). p.0) (same_ok (number_in w32 bytes at, at + byte_len w32) x h) in ap stands (sym same) ∙ e
+    by_test : (a b : Bool) → stands (number_in w bytes at) ≡ b → cond {A = Result (ℕ × ℕ) ℕ} (a && b) (Ok (number_in w bytes at, at + byte_len w)) (Err at) ≡ Ok x → stands x.0 ≡ true
+    by_test true true e h = ap stands (sym (ap (λ (p : ℕ × ℕ). p.0) (same_ok (number_in w bytes at, at + byte_len w) x h))) ∙ e
     by_test true false e h = absurd cc
     by_test false true e h = absurd cc
     by_test false false e h = absurd cc
@@ -63,11 +63,11 @@ extents_at-new bytes limit extents zero before at xs next h =
     let none : [] ≡ xs = ap (λ (p : List ℕ × ℕ). p.0) (same_ok ([], at) (xs, next) h) in
     subst (AreNew extents before) none (record { distinct = refl; below = refl; apart = refl })
 extents_at-new bytes limit extents (suc n) before at xs next h =
-    let first = bind_is _ _ _ h in
+    let first = bind_is (field bytes limit w32 (λ x. nat_lt x extents && not (is_in x before)) at) _ (xs, next) h in
     let others = bind_is (extents_at bytes limit extents n (first.0.0 ∷ before) first.0.1) _ _ first.2 in
     let whole : first.0.0 ∷ others.0.0 ≡ xs = ap (λ (p : List ℕ × ℕ). p.0) (same_ok (first.0.0 ∷ others.0.0, others.0.1) (xs, next) others.2) in
     let new = extents_at-new bytes limit extents n (first.0.0 ∷ before) first.0.1 others.0.0 others.0.1 others.1 in
-    let passes = and_parts (nat_lt first.0.0 extents) (not (is_in first.0.0 before)) (field-passes bytes limit (λ x. nat_lt x extents && not (is_in x before)) at first.0 first.1) in
+    let passes = and_parts (nat_lt first.0.0 extents) (not (is_in first.0.0 before)) (field-passes w32 bytes limit (λ x. nat_lt x extents && not (is_in x before)) at first.0 first.1) in
     let apart = apart-parts first.0.0 before others.0.0 new.apart in
     subst (AreNew extents before) whole (record {
       distinct = and_from (not (is_in first.0.0 others.0.0)) (all_distinct others.0.0) (not_from_false _ apart.1) new.distinct;

@@ -123,7 +123,7 @@ module _ (n : ℕ) (old new : State) (page bytes : List ℕ) (wrote : Wrote n 1 
       let page_is : block_at image 1 ≡ block_of (0 ∷ []) = written_shown n 1 old new page wrote.fit below is image told ∙ zero_page in
       let m : Manifest = (fresh g extents).manifest in
       let snapshot : snapshot_in g image 0 ≡ Ok m = pages-read g image 0 m valid (subst (λ k. IsManifest g k m) (sym size) (fresh-stands g n extents stands))
-          (λ k within. was.2 (area_block 0 + k) (λ e. absurd (omega arith)) ∙ (has was.0 was.1).pages k (subst (λ (b : List ℕ). k < page_count b) (sym spelled) within) ∙ ap (λ (b : List ℕ). page_of b k) spelled) in
+      (λ k within. was.2 (area_block 0 + k) (λ e. absurd (omega arith)) ∙ (has was.0 was.1).pages k (subst (λ (b : List ℕ). k < page_count b) (sym spelled) within) ∙ ap (λ (b : List ℕ). page_of b k) spelled) in
       manifest_in-ok g image (block_of (0 ∷ [])) 0 m (sym page_is) refl snapshot
 
 -- a device with room for some extents has the selector

@@ -1,40 +1,22 @@
 -- What a change of blocks makes of the manifest that an image names.
-use Rattle.std.proofs.Common.{◌≡◌, ℕ, ◌+◌, ◌*◌, ◌/◌, ◌%◌, ◌<◌, ◌≤◌, refl, sym, ap, ◌∙◌, Bool, true, false, cond, ◌&&◌, List, [], length, None, Result, Ok, Err, arith}
+use Rattle.std.proofs.Common.{◌≡◌, ℕ, ◌+◌, ◌*◌, ◌/◌, ◌%◌, ◌<◌, ◌≤◌, refl, sym, ap, ◌∙◌, true, cond, ◌&&◌, List, [], length, None, Result, Ok, Err, arith}
 use Rattle.std.specs.Prelude.{get_or, nat_le, ◌==◌}
-use Rattle.std.specs.Int.{Width, w8, w16, w32, w64, byte_len}
+use Rattle.std.specs.Int.{w8, w16, w32, w64}
 use Rattle.std.proofs.lemmas.Bool.{and_parts, leb-true}
 use Rattle.lt_terms.specs.Bytes.{Image, block_at}
 use Rattle.lt_device.specs.Image.{SameOutside}
 use Rattle.lt_format.specs.declared.geometry.Geometry.{Geometry}
 use Rattle.lt_format.specs.Layout.{is_geometry, area_block, selected, selector_block, geometry_of}
 use Rattle.lt_format.specs.Trie.{Trie}
-use Rattle.lt_format.specs.Snapshot.{Manifest, Front, field, number_in, front_read, snapshot_read, snapshot_in, area_byte, as_block, extents_stand, is_zero, always, total_offset, IsManifest, pages_of, snapshot_page, ◌>>=◌}
+use Rattle.lt_format.specs.Snapshot.{Manifest, Front, field, front_read, snapshot_read, snapshot_in, area_byte, as_block, extents_stand, is_zero, always, total_offset, IsManifest, pages_of, snapshot_page, ◌>>=◌}
 use Rattle.lt_format.specs.Naming.{Named, geometry_in, manifest_in, manifest_of, roomy}
 use Rattle.lt_format.proofs.SnapshotReadLaws.{pages-read}
 use Rattle.lt_manifest.specs.Area.{after_front}
 use Rattle.lt_manifest.specs.Moments.{Names}
 use Rattle.lt_manifest.specs.Written.{InArea}
 use Rattle.lt_manifest.proofs.AlikeLaws.{front_read-same, nodes_read-same}
+use Rattle.lt_manifest.proofs.FreshLaws.{bind_is, same_ok, field-passes}
 use Rattle.lt_manifest.proofs.ReadingLaws.{few_extents, snapshot-read}
-
-bind_is : {A B : Type 0} (r : Result A ℕ) (f : A → Result B ℕ) (b : B) → (r >>= f) ≡ Ok b → (a : A) × (r ≡ Ok a) × (f a ≡ Ok b)
-bind_is (Ok a) f b h = (a, refl, h)
-bind_is {A} {B} (Err e) f b h = absurd (no_ok h)
-  where
-    no_ok : ◌≡◌ {A = Result B ℕ} (Err e) (Ok b) → ⊥
-    no_ok h = cc
-
-same_ok : {A : Type 0} (x y : A) → ◌≡◌ {A = Result A ℕ} (Ok x) (Ok y) → x ≡ y
-same_ok x y h = cc
-
-field-passes : (w : Width) (bytes : ℕ → ℕ) (limit : ℕ) (stands : ℕ → Bool) (at : ℕ) (x : ℕ × ℕ) → field bytes limit w stands at ≡ Ok x → stands x.0 ≡ true
-field-passes w bytes limit stands at x h = by_test (nat_le (at + byte_len w) limit) (stands (number_in w bytes at)) refl h
-  where
-    by_test : (a b : Bool) → stands (number_in w bytes at) ≡ b → cond {A = Result (ℕ × ℕ) ℕ} (a && b) (Ok (number_in w bytes at, at + byte_len w)) (Err at) ≡ Ok x → stands x.0 ≡ true
-    by_test true true e h = ap stands (sym (ap (λ (p : ℕ × ℕ). p.0) (same_ok (number_in w bytes at, at + byte_len w) x h))) ∙ e
-    by_test true false e h = absurd cc
-    by_test false true e h = absurd cc
-    by_test false false e h = absurd cc
 
 -- the fields of a header, the last first
 module _ (g : Geometry) (blocks : ℕ) (bytes : ℕ → ℕ) where

@@ -44,7 +44,7 @@ pub shows-writes : (inside : ℕ → Type 0) (n b : ℕ) (old : Option Image) (m
 shows-writes inside n b old mid new wrote in_it so_far =
     shows-joins inside inside (λ k. k ≡ b) old mid.shown new.shown so_far (record { each = λ before told. wrote_others n b mid new before wrote told }) (λ k i. i) (λ k at. subst inside (sym at) in_it)
 
-same_some : {A : Type 0} (o : Option A) (x y : A) → o ≡ Some x → o ≡ Some y → x ≡ y
+pub same_some : {A : Type 0} (o : Option A) (x y : A) → o ≡ Some x → o ≡ Some y → x ≡ y
 same_some o x y one two = cc
 
 pub comes-none : (inside : ℕ → Type 0) (shown : Option Image) → ComesFrom inside shown shown

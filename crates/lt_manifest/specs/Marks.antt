@@ -1,4 +1,4 @@
--- The extents that were named before, as a flag for each extent, and the faults of reading.
+-- The extents that were named before, as a flag for each extent.
 use Rattle.std.specs.Prelude.{◌≡◌, ℕ, ◌<◌, Bool, false, List, length, slice_index_or}
 use Rattle.lt_tables.specs.Filter.{is_in}
 

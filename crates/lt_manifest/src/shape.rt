@@ -110,12 +110,7 @@ fn follows(last: Option<NodeId>, level: u8, number: u16) -> bool
 }
 
 /// The base, which is 0 above the last level.
-fn base_field(
-    is_last: bool,
-    extents: u32,
-    bytes: &[u8],
-    at: usize,
-) -> Result<(u32, usize), usize>
+fn base_field(is_last: bool, extents: u32, bytes: &[u8], at: usize) -> Result<(u32, usize), usize>
     ensures read { result ≡ field (slice_index bytes.now) (length bytes.now) w32 (λ m. nat_le m (if is_last then extents else 0)) at }
     ensures most { IfOk result (λ read. read.0 ≤ (if is_last then extents else 0)) }
     ensures place { IfOk result (λ read. read.1 ≤ length bytes.now) }
@@ -139,12 +134,7 @@ fn tables_field(extents: u32, bytes: &[u8], at: usize) -> Result<(u32, usize), u
 }
 
 /// The number of groups, which is 0 above the last level.
-fn groups_field(
-    is_last: bool,
-    tables: u32,
-    bytes: &[u8],
-    at: usize,
-) -> Result<(u32, usize), usize>
+fn groups_field(is_last: bool, tables: u32, bytes: &[u8], at: usize) -> Result<(u32, usize), usize>
     ensures read { result ≡ field (slice_index bytes.now) (length bytes.now) w32 (λ g. g == (if is_last then groups_for tables else 0)) at }
     ensures wanted { IfOk result (λ read. read.0 ≡ (if is_last then groups_for tables else 0)) }
     ensures place { IfOk result (λ read. read.1 ≤ length bytes.now) }

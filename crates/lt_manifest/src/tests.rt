@@ -52,9 +52,8 @@ fn all_below(limit: u32, list: &[u32]) -> bool
 fn children_below(limit: u32, children: &[ChildChange]) -> bool
     ensures { result ≡ list_all (λ c. all_below limit c.tables && all_below limit c.groups) children.now }
 {
-    children
-        .iter()
-        .all(|child| all_below(limit, child.tables.list()) && all_below(limit, child.groups.list()))
+    children.iter().all(|child| all_below(limit, child.tables.list())
+        && all_below(limit, child.groups.list()))
 }
 
 /// Whether the new extents of a change are below a limit.
@@ -229,7 +228,11 @@ fn two_flushes_are_committed_on_one_manifest(rt: HostRuntime) -> Result<(), Fail
 }
 
 /// Deals the root's oldest table to two children, each with a table and a group.
-fn deal<D: Device>(alloc: Global, device: &mut D, manifest: &mut Manifest) -> Result<(), CommitFault>
+fn deal<D: Device>(
+    alloc: Global,
+    device: &mut D,
+    manifest: &mut Manifest,
+) -> Result<(), CommitFault>
     requires { manifest.old.geometry ≡ TWO }
     ensures { manifest.new.geometry ≡ manifest.old.geometry }
 {
@@ -314,7 +317,12 @@ fn spelled<D: Device>(alloc: Global, device: &mut D) -> Result<Vec<u32>, OpenFau
     for entry in manifest.trie().nodes() {
         let NodeId { level, number } = entry.node();
         let tables = entry.tables();
-        let front = [level as u32, number as u32, entry.base(), tables.len().min(99) as u32];
+        let front = [
+            level as u32,
+            number as u32,
+            entry.base(),
+            tables.len().min(99) as u32,
+        ];
         let full = all.extend_from_slice(&front).is_err()
             || all.extend_from_slice(tables).is_err()
             || all.extend_from_slice(entry.groups()).is_err();
@@ -373,7 +381,11 @@ fn a_crash_leaves_the_old_or_the_new_manifest(rt: HostRuntime) -> Result<(), Fai
     // syncs.
     for stop in 2..71 {
         let mut device = fresh.crash(alloc, &[], 99, Vec::new(alloc), Some(stop))?;
-        assert_eq!(rt; open_and_flush(alloc, &mut device), stop == 70, "stopped at {stop}");
+        assert_eq!(rt;
+            open_and_flush(alloc, &mut device),
+            stop == 70,
+            "stopped at {stop}"
+        );
         let picks = [
             (Pick::Stable, stop == 70),
             (Pick::Written, stop >= 68),
