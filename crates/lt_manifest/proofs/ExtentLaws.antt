@@ -1,7 +1,7 @@
 -- Extent numbers that are read one after another.
-use Rattle.std.proofs.Common.{◌≡◌, ℕ, zero, suc, ◌+◌, ◌-◌, ◌<◌, ◌≤◌, refl, sym, ap, subst, ◌∙◌, Bool, true, false, not, cond, ◌&&◌, ◌||◌, List, [], ◌∷◌, ◌++◌, length, Result, Ok, Err, IsErrOf, arith, append-nil, append_assoc}
-use Rattle.std.specs.Prelude.{◌==◌, nat_lt, nat_le, slice_index}
-use Rattle.std.specs.Int.{w32, byte_len}
+use Rattle.std.proofs.Common.{◌≡◌, ℕ, zero, suc, ◌+◌, ◌-◌, ◌<◌, ◌≤◌, refl, sym, ap, ◌∙◌, Bool, true, false, not, ◌&&◌, ◌||◌, List, [], ◌∷◌, ◌++◌, Result, Ok, Err, arith, append-nil, append_assoc}
+use Rattle.std.specs.Prelude.{◌==◌, nat_lt}
+use Rattle.std.specs.Int.{w32}
 use Rattle.std.proofs.lemmas.List.Folds.{list_any-append}
 use Rattle.lt_tables.specs.Filter.{is_in}
 use Rattle.lt_format.specs.Snapshot.{field, number_in, extents_at, ◌>>=◌}
@@ -98,3 +98,15 @@ module _ (bytes : ℕ → ℕ) (limit extents count at : ℕ) (before : List ℕ
       let none : count - done ≡ 0 = omega arith in
       let end : extents_at bytes limit extents (count - done) (list ++ before) place ≡ Ok ([], place) = rw none refl in
       so_far.goes_on ∙ ap (put_front list) end ∙ ap (λ (xs : List ℕ). Ok (xs, place)) (append-nil list)
+
+swapped_bits : (a b c : Bool) → (a || (b || c)) ≡ ((b || a) || c)
+swapped_bits true true c = refl
+swapped_bits true false c = refl
+swapped_bits false true c = refl
+swapped_bits false false c = refl
+
+-- lists in another order
+pub same-swapped : (xs ys before : List ℕ) → SameNumbers (xs ++ (ys ++ before)) ((ys ++ xs) ++ before)
+same-swapped xs ys before z =
+    list_any-append (λ q. q == z) xs (ys ++ before) ∙ ap (λ b. is_in z xs || b) (list_any-append (λ q. q == z) ys before) ∙ swapped_bits (is_in z xs) (is_in z ys) (is_in z before)
+    ∙ sym (list_any-append (λ q. q == z) (ys ++ xs) before ∙ ap (λ b. b || is_in z before) (list_any-append (λ q. q == z) ys xs))

@@ -1,11 +1,10 @@
 -- The geometry of block 0 is that of the image.
-use Rattle.std.proofs.Common.{◌≡◌, ℕ, refl, sym, ap, ◌∙◌, subst, Bool, List, ◌++◌, Option, Some, None, Result, Ok, Err, IfOk, IsErrOf, IsTrue, nat_le, ◌&&◌, [], ◌∷◌, length, take, drop, arith}
+use Rattle.std.proofs.Common.{◌≡◌, ℕ, refl, sym, ap, ◌∙◌, subst, List, Option, Some, None, Result, Ok, Err, IfOk, IsErrOf, IsTrue, [], ◌∷◌, length, take, drop, arith}
 use Rattle.std.specs.Prelude.{codes}
 use Rattle.std.specs.Option.{ForSome, ok_or}
 use Rattle.std.proofs.lemmas.Bool.{and_parts}
 use Rattle.std.proofs.lemmas.Option.{cond_some}
-use Rattle.lt_terms.specs.Bytes.{Image, block_at, all_zero, same_bytes, u16_at}
-use Rattle.std.specs.Prelude.{slice_index}
+use Rattle.lt_terms.specs.Bytes.{Image, block_at, all_zero, same_bytes}
 use Rattle.lt_device.specs.State.{State, IsFit}
 use Rattle.lt_format.specs.declared.geometry.Geometry.{Geometry}
 use Rattle.lt_format.specs.Layout.{is_geometry, geometry_of}

@@ -1,3 +1,16 @@
+pub mod AlikeLaws
+pub mod AreaLaws
+pub mod CommitLaws
 pub mod ExtentLaws
 pub mod FaultLaws
+pub mod FreshLaws
 pub mod GeometryLaws
+pub mod ManifestLaws
+pub mod NameLaws
+pub mod NodeLaws
+pub mod PageLaws
+pub mod ReadingLaws
+pub mod ShapeLaws
+pub mod SpellingLaws
+pub mod TestLaws
+pub mod WriteLaws

@@ -1,3 +1,7 @@
 pub mod Moments
+pub mod Area
 pub mod Marks
+pub mod Next
 pub mod Opened
+pub mod Shape
+pub mod Written

@@ -1,7 +1,6 @@
--- The extents that were named before, as a flag for each extent, and the faults of reading.
-use Rattle.std.specs.Prelude.{◌≡◌, ℕ, ◌<◌, ◌++◌, Bool, false, List, Result, Ok, Err, length, slice_index_or}
+-- The extents that were named before, as a flag for each extent.
+use Rattle.std.specs.Prelude.{◌≡◌, ℕ, ◌<◌, Bool, false, List, length, slice_index_or}
 use Rattle.lt_tables.specs.Filter.{is_in}
-use Rattle.lt_format.specs.Snapshot.{extents_at}
 
 -- exactly the flags of these numbers are set
 abbrev pub AreMarks : List Bool → List ℕ → Type 0

@@ -4,8 +4,13 @@ use Rattle.lt_format.specs.declared.geometry.Geometry.{Geometry}
 use Rattle.lt_format.specs.Layout.{is_geometry, area_block, snapshot_blocks}
 use Rattle.lt_format.specs.declared.header.Header.{Header}
 use Rattle.lt_format.specs.Trie.{Trie, IsTrie}
-use Rattle.lt_format.specs.Snapshot.{Manifest, IsManifest}
+use Rattle.lt_format.specs.Snapshot.{IsManifest}
 use Rattle.lt_format.specs.Naming.{Named}
+use Rattle.lt_node.specs.View.{TrieView}
+
+-- what the fields of a manifest in memory name
+abbrev pub named_by : Geometry → ℕ → Header → Trie → Named
+named_by g area header trie = record { geometry = g; area = area; manifest = record { header = header; trie = trie } }
 
 -- what a manifest in memory keeps, whatever the size of its device
 pub record IsKept (named : Named) : Type 0 where
@@ -16,6 +21,11 @@ pub record IsKept (named : Named) : Type 0 where
   pub most : named.manifest.header.extents ≤ 65536
   pub writes : named.manifest.header.writes < 2 ^ 64
   pub trie : IsTrie named.geometry.levels named.manifest.header.extents named.manifest.trie
+
+-- what the fields of a manifest in memory keep
+pub record IsHeld (g : Geometry) (area : ℕ) (header : Header) (trie : TrieView) : Type 0 where
+  pub kept : IsKept (named_by g area header trie.nodes)
+  pub levels : trie.levels ≡ g.levels
 
 -- what was opened is a manifest of this geometry that a device of so many blocks has room for
 pub record IsOpened (g : Geometry) (blocks : ℕ) (named : Named) : Type 0 where
@@ -33,7 +43,3 @@ pub record InSnapshot (block : ℕ) : Type 0 where
 -- the manifest of a fresh store, in area 0
 abbrev pub fresh : Geometry → ℕ → Named
 fresh g extents = record { geometry = g; area = 0; manifest = record { header = record { log_area = 0; extents = extents; writes = 0 }; trie = [] } }
-
--- what the fields of a manifest in memory name
-abbrev pub named_by : Geometry → ℕ → Header → Trie → Named
-named_by g area header trie = record { geometry = g; area = area; manifest = record { header = header; trie = trie } }

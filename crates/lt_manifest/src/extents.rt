@@ -25,6 +25,7 @@ pub fn read_extents(
     ensures read { IfOk result (λ read. (before : List ℕ) → AreMarks marks.old before
         → extents_at (slice_index bytes.now) (length bytes.now) extents count before at ≡ Ok (read.0.items, read.1)) }
     ensures marked { IfOk result (λ read. (before : List ℕ) → AreMarks marks.old before → AreMarks marks.new (read.0.items ++ before)) }
+    ensures count { IfOk result (λ read. length read.0.items ≡ count) }
     ensures place { IfOk result (λ read. read.1 ≤ length bytes.now) }
     ensures fault { (e : ℕ) → IsErrOf result (ReadFault.Field e) → (before : List ℕ) → AreMarks marks.old before
         → extents_at (slice_index bytes.now) (length bytes.now) extents count before at ≡ Err e }

@@ -28,12 +28,7 @@ pub fn number_u32(bytes: &[u8], at: usize) -> Option<u32>
     if bytes.len() < 4 || at > bytes.len() - 4 {
         return None;
     }
-    Some(u32::from_be_bytes([
-        bytes[at],
-        bytes[at + 1],
-        bytes[at + 2],
-        bytes[at + 3],
-    ]))
+    Some(u32::from_be_bytes([bytes[at], bytes[at + 1], bytes[at + 2], bytes[at + 3]]))
 }
 
 /// The number in the eight bytes from a place on, if there are eight.

@@ -1,6 +1,6 @@
 //! The header of a snapshot: its first 40 bytes.
 
-ghost use Rattle.std.specs.Prelude.{◌≡◌, ◌+◌, ◌*◌, ◌≤◌, ◌==◌, ◌&&◌, length, nat_le, Ok, Err, MatchResult, slice_index};
+ghost use Rattle.std.specs.Prelude.{◌≡◌, ◌+◌, ◌*◌, ◌^◌, ◌<◌, ◌≤◌, ◌==◌, ◌&&◌, length, nat_le, Ok, Err, IfOk, IfErr, IsTrue, MatchResult, slice_index};
 ghost use Rattle.std.specs.Int.{w8, w16, w32, w64};
 ghost use Rattle.lt_format.specs.Snapshot.{field, front_read, is_zero, extents_stand, always};
 
@@ -21,9 +21,15 @@ pub struct Front {
 #[tactic(auto, unfolding(lt_format::specs::Snapshot::front_read))]
 pub fn read_front(geometry: &Geometry, blocks: u64, bytes: &[u8]) -> Result<Front, usize>
     requires { length bytes.now ≡ 40 }
-    ensures { MatchResult result
+    ensures read { MatchResult result
         (λ front. front_read geometry.now blocks (slice_index bytes.now) ≡ Ok (record { header = front.header; nodes = front.nodes; total = front.total }))
         (λ at. front_read geometry.now blocks (slice_index bytes.now) ≡ Err at) }
+    ensures log_area { IfOk result (λ front. front.header.log_area < 2) }
+    ensures stands { IfOk result (λ front. IsTrue (extents_stand geometry.now blocks front.header.extents)) }
+    ensures writes { IfOk result (λ front. front.header.writes < 2 ^ 64) }
+    ensures least { IfOk result (λ front. 40 ≤ front.total) }
+    ensures most { IfOk result (λ front. front.total ≤ 40 + 19 * front.header.extents) }
+    ensures fault_place { IfErr result (λ at. at < 40) }
 {
     format_field(bytes)?;
     let (log_area, _) = log_area_field(bytes)?;
@@ -55,7 +61,8 @@ fn format_field(bytes: &[u8]) -> Result<(u8, usize), usize>
 }
 
 fn log_area_field(bytes: &[u8]) -> Result<(u8, usize), usize>
-    ensures { result ≡ field (slice_index bytes.now) (length bytes.now) w8 (λ n. nat_le n 1) 1 }
+    ensures read { result ≡ field (slice_index bytes.now) (length bytes.now) w8 (λ n. nat_le n 1) 1 }
+    ensures small { IfOk result (λ read. read.0 < 2) }
 {
     match number_u8(bytes, 1) {
         Some(area) if area <= 1 => Ok((area, 2)),
@@ -64,7 +71,8 @@ fn log_area_field(bytes: &[u8]) -> Result<(u8, usize), usize>
 }
 
 fn extents_field(geometry: &Geometry, blocks: u64, bytes: &[u8]) -> Result<(u32, usize), usize>
-    ensures { result ≡ field (slice_index bytes.now) (length bytes.now) w32 (extents_stand geometry.now blocks) 4 }
+    ensures read { result ≡ field (slice_index bytes.now) (length bytes.now) w32 (extents_stand geometry.now blocks) 4 }
+    ensures stands { IfOk result (λ read. IsTrue (extents_stand geometry.now blocks read.0)) }
 {
     match number_u32(bytes, 4) {
         Some(extents) if has_room(geometry, blocks, extents) => Ok((extents, 8)),
@@ -73,14 +81,15 @@ fn extents_field(geometry: &Geometry, blocks: u64, bytes: &[u8]) -> Result<(u32,
 }
 
 /// Whether a device of so many blocks has room for so many extents.
-fn has_room(geometry: &Geometry, blocks: u64, extents: u32) -> bool
+pub fn has_room(geometry: &Geometry, blocks: u64, extents: u32) -> bool
     ensures { result ≡ extents_stand geometry.now blocks extents }
 {
     1 <= extents && extents <= 65_536 && geometry.needed(extents) <= blocks
 }
 
 fn writes_field(bytes: &[u8]) -> Result<(u64, usize), usize>
-    ensures { result ≡ field (slice_index bytes.now) (length bytes.now) w64 always 8 }
+    ensures read { result ≡ field (slice_index bytes.now) (length bytes.now) w64 always 8 }
+    ensures small { IfOk result (λ read. read.0 < 2 ^ 64) }
 {
     match number_u64(bytes, 8) {
         Some(writes) => Ok((writes, 16)),
@@ -98,7 +107,9 @@ fn nodes_field(bytes: &[u8], extents: u32) -> Result<(u32, usize), usize>
 }
 
 fn total_field(bytes: &[u8], extents: u32) -> Result<(u32, usize), usize>
-    ensures { result ≡ field (slice_index bytes.now) (length bytes.now) w32 (λ n. nat_le 40 n && nat_le n (40 + 19 * extents)) 20 }
+    ensures read { result ≡ field (slice_index bytes.now) (length bytes.now) w32 (λ n. nat_le 40 n && nat_le n (40 + 19 * extents)) 20 }
+    ensures least { IfOk result (λ read. 40 ≤ read.0) }
+    ensures most { IfOk result (λ read. read.0 ≤ 40 + 19 * extents) }
 {
     match number_u32(bytes, 20) {
         Some(total) if 40 <= total && total as u64 <= 40 + 19 * extents as u64 => Ok((total, 24)),

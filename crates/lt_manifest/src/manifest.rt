@@ -1,6 +1,6 @@
 //! The manifest in memory: its header and trie, and the area of the device that is current.
 
-ghost use Rattle.std.specs.Prelude.{◌≡◌, ℕ, ◌≤◌, Some, Ok, Err, IfOk, IsErrOf, OnOk, IsTrue};
+ghost use Rattle.std.specs.Prelude.{◌≡◌, ℕ, ◌^◌, ◌<◌, ◌≤◌, Some, Ok, Err, IfOk, IsErrOf, OnOk, IsTrue};
 ghost use Rattle.std.specs.Option.{ForSome};
 ghost use Rattle.lt_terms.specs.Bytes.{Image};
 ghost use Rattle.lt_terms.specs.Causes.{Rose};
@@ -13,10 +13,15 @@ ghost use Rattle.lt_node.specs.Changing.{change_of};
 ghost use Rattle.lt_manifest.specs.Moments.{Names, HasNew, HasOldOrNew, EditsClosed, ShowsSameOutside};
 ghost use Rattle.lt_manifest.specs.Opened.{IsKept, IsOpened, InSnapshot, fresh};
 
+use crate::area::{fill_area, fill_selector};
+use crate::reading::read_snapshot;
+use crate::replacing::replace;
+use crate::spelling::{snapshot_room, spell};
 use lt_device::Device;
 use lt_format::{Geometry, Header};
-use lt_layout::OpenFault;
+use lt_layout::{OpenFault, selected};
 use lt_node::{Change, CommitFault, Trie};
+use lt_page::Page;
 use std::alloc::Global;
 use std::marker::Model;
 
@@ -32,13 +37,13 @@ pub struct Manifest {
 impl Model for Manifest {
     ghost use Rattle.std.specs.Prelude.{◌≡◌};
     ghost use Rattle.lt_format.specs.Naming.{Named};
-    ghost use Rattle.lt_manifest.specs.Opened.{IsKept, named_by};
+    ghost use Rattle.lt_manifest.specs.Opened.{IsHeld, named_by};
 
     ghost Value = { Named };
 
     ghost view = { λ m. named_by m.geometry m.area m.header m.trie.nodes };
 
-    ghost invariant = { λ m. ⊥ };
+    ghost invariant = { λ m. IsHeld m.geometry m.area m.header m.trie };
 }
 
 impl Manifest {
@@ -66,9 +71,17 @@ impl Manifest {
         ensures later { D.faults device.old ≤ D.faults device.new }
         ensures cause { IsErrOf result CommitFault.Device → Rose (D.faults device.old) (D.faults device.new) }
     {
-        let _ = (alloc, extents, device.blocks());
-        let _ = geometry;
-        Err(CommitFault::NoMemory)
+        let header = Header {
+            log_area: 0,
+            extents,
+            writes: 0,
+        };
+        let mut page = Page::new(alloc)?;
+        let mut bytes = snapshot_room(alloc)?;
+        spell(&mut bytes, &header, &[]);
+        fill_area(device, geometry, 0, &bytes, &mut page)?;
+        fill_selector(&mut page, 0);
+        Ok(device.write(1, &page)?)
     }
 
     /// Reads the manifest of the area that is current.
@@ -94,9 +107,16 @@ impl Manifest {
         ensures size { D.blocks device.new ≡ D.blocks device.old }
         ensures count { CountsAtMost 306 (D.reads device.old) (D.reads device.new) }
     {
-        let _ = (alloc, device.blocks());
-        let _ = geometry;
-        Err(OpenFault::NoMemory)
+        let mut page = Page::new(alloc)?;
+        device.read(1, &mut page)?;
+        let area = selected(&page);
+        let (header, trie) = read_snapshot(alloc, device, geometry, area, &mut page)?;
+        Ok(Manifest {
+            geometry: *geometry,
+            area,
+            header,
+            trie,
+        })
     }
 
     pub fn header(&self) -> Header
@@ -154,10 +174,21 @@ impl Manifest {
         ensures later { D.faults device.old ≤ D.faults device.new }
         ensures cause { IsErrOf result CommitFault.Device → Rose (D.faults device.old) (D.faults device.new) }
     {
-        let _ = (alloc, device.blocks());
-        let _ = change;
-        let _ = header;
-        let _ = &self.area;
-        Err(CommitFault::NoMemory)
+        let mut page = Page::new(alloc)?;
+        let mut bytes = snapshot_room(alloc)?;
+        self.trie.apply(alloc, change)?;
+        self.header = kept(*header);
+        spell(&mut bytes, &self.header, self.trie.nodes());
+        replace(device, &self.geometry, self.area, &bytes, &mut page)?;
+        self.area = 1 - self.area;
+        Ok(())
     }
+}
+
+/// The same header, whose number of writes is one of 64 bits.
+fn kept(header: Header) -> Header
+    ensures same { result ≡ header }
+    ensures writes { result.writes < 2 ^ 64 }
+{
+    header
 }

@@ -1,14 +1,15 @@
-use Rattle.std.proofs.Common.{◌≡◌, ℕ, ◌∙◌, sym, ap, subst, List, ◌∷◌, ◌++◌, [], Ok, Err, arith}
+use Rattle.std.proofs.Common.{◌≡◌, ◌∙◌, sym, ap, ◌∷◌, ◌++◌, [], Err, arith, length, length-append}
 use Rattle.std.proofs.lemmas.Result.{err_from_is_err_and}
-use Rattle.lt_manifest.proofs.ExtentLaws.{part-none, part-more, part-fault, part-all, IsPartRead}
+use Rattle.lt_manifest.proofs.ExtentLaws.{part-none, part-more, part-fault, part-all}
 use Rattle.lt_manifest.proofs.FaultLaws.{handed_field}
 use Rattle.lt_manifest.proofs.extents.read_extents.Goals as goal
 
 pub loop-init : goal.loop-init
-loop-init c = record { place = c.requires.within; part = λ before marks. let none : c.new-list.result.items ≡ [] = c.new-list.ensures.items in rw none (part-none _ _ _ _ _ before _ marks) }
+loop-init c = record { count = let none : c.new-list.result.items ≡ [] = c.new-list.ensures.items in ap length none; place = c.requires.within; part = λ before marks. let none : c.new-list.result.items ≡ [] = c.new-list.ensures.items in rw none (part-none _ _ _ _ _ before _ marks) }
 
 pub loop-preserved : goal.loop-preserved
 loop-preserved c = record {
+  count = let items : c.push.new.self.items ≡ c.loop.list.items ++ c.in_ok-extent.extent ∷ [] = c.in_ok-push.ensures.items in ap length items ∙ omega (arith, c.loop.invariant.count, length-append c.loop.list.items (c.in_ok-extent.extent ∷ []));
   place = c.in_ok-extent.ensures.place;
   part = λ before marks.
       let so_far = c.loop.invariant.part before marks in

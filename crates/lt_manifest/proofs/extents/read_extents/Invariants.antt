@@ -6,6 +6,7 @@ use Rattle.lt_manifest.proofs.extents.read_extents.Given as goal
 -- the numbers so far were read and marked
 abbrev pub invariant-loop : goal.invariant-loop
 invariant-loop l = record {
+  count : length l.list.items ≡ l.counter;
   place : l.place ≤ length l.bytes;
   part : (before : List ℕ) → AreMarks l.fn.marks before → IsPartRead (slice_index l.bytes) (length l.bytes) l.extents l.count l.at before l.marks l.counter l.list.items l.place;
 }

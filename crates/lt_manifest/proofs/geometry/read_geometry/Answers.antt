@@ -1,5 +1,4 @@
-use Rattle.std.proofs.Common.{◌≡◌, ap, ◌∙◌, sym, arith}
-use Rattle.lt_device.specs.State.{State}
+use Rattle.std.proofs.Common.{arith}
 use Rattle.lt_manifest.proofs.GeometryLaws.{geometry_in-read, read-ok, read-damaged, none-damaged}
 use Rattle.lt_manifest.proofs.geometry.read_geometry.Goals as goal
 

@@ -1,0 +1,152 @@
+-- Nodes that are read one after another.
+use Rattle.std.proofs.Common.{◌≡◌, ℕ, suc, ◌+◌, ◌-◌, ◌<◌, ◌≤◌, refl, sym, ap, subst, ◌∙◌, Bool, true, false, not, cond, ◌&&◌, ◌||◌, List, [], ◌∷◌, ◌++◌, length, Option, Some, None, Result, Ok, Err, IsTrue, arith, append-nil, append_assoc}
+use Rattle.std.specs.Prelude.{◌==◌, if◌then◌else◌}
+use Rattle.std.specs.declared.cmp.Ordering.TheVariants.{Less, Greater}
+use Rattle.std.specs.Ordering.{is_lt, ordering_reverse}
+use Rattle.std.specs.FinMap.{put}
+use Rattle.std.specs.List.{list_all}
+use Rattle.std.proofs.lemmas.Bool.{and_parts, and_from, ne_eqb}
+use Rattle.std.proofs.lemmas.Grind.{flat_map-append}
+use Rattle.std.proofs.lemmas.List.Folds.{list_any-append, list_all-append}
+use Rattle.lt_tables.specs.Filter.{is_in}
+use Rattle.lt_format.specs.declared.node_id.NodeId.{NodeId}
+use Rattle.lt_format.specs.Trie.{Node, Trie, node_cmp, with_node, named, node_extents, is_node, is_shaped, is_last_level, groups_for, all_distinct, all_below, IsTrie}
+use Rattle.lt_format.specs.Changes.{are_new}
+use Rattle.lt_format.specs.Snapshot.{node_read, nodes_read, follows, ◌>>=◌}
+use Rattle.lt_format.proofs.Numbers.{times-below, below-times}
+use Rattle.lt_format.proofs.TrieLaws.{node_total, is_less}
+use Rattle.lt_format.proofs.KeepLaws.{set-trie}
+use Rattle.lt_format.proofs.ShapeLaws.{inner-shaped, last-shaped}
+use Rattle.lt_manifest.specs.Marks.{AreMarks}
+use Rattle.lt_manifest.proofs.ExtentLaws.{SameNumbers}
+use Rattle.lt_manifest.proofs.AlikeLaws.{nodes_read-same}
+
+-- ---- shapes
+
+-- what the counts of a node say of its lists
+pub shaped-from : (levels extents : ℕ) (id : NodeId) (n : Node) (tables groups : ℕ) → length n.tables ≡ tables → length n.groups ≡ groups → n.base ≤ (if is_last_level levels id then extents else 0)
+    → groups ≡ (if is_last_level levels id then groups_for tables else 0) → is_shaped levels extents id n ≡ true
+shaped-from levels extents id n tables groups count_tables count_groups base wanted = by_level (is_last_level levels id) refl base wanted
+  where
+    by_level : (b : Bool) → is_last_level levels id ≡ b → n.base ≤ cond b extents 0 → groups ≡ cond b (groups_for tables) 0 → is_shaped levels extents id n ≡ true
+    by_level true last base wanted = last-shaped levels extents id n last base (count_groups ∙ wanted ∙ ap groups_for (sym count_tables))
+    by_level false inner base wanted = inner-shaped levels extents id n inner (omega arith) (count_groups ∙ wanted)
+
+-- ---- the node behind all others
+
+-- each node comes before this name
+abbrev pub all_before : NodeId → Trie → Bool
+all_before id trie = list_all (λ (e : NodeId × Node). is_lt (node_cmp e.0 id)) trie
+
+greater : (a b : NodeId) → node_cmp a b ≡ Less → node_cmp b a ≡ Greater
+greater a b less = node_total.antisymm b a ∙ ap ordering_reverse less
+
+put-last : (id : NodeId) (node : Node) (trie : Trie) → all_before id trie ≡ true → put node_cmp id node trie ≡ trie ++ (id, node) ∷ []
+put-last id node [] h = refl
+put-last id node (e ∷ es) h =
+    let both = and_parts (is_lt (node_cmp e.0 id)) (all_before id es) h in
+    let after : node_cmp id e.0 ≡ Greater = greater e.0 id (is_less (node_cmp e.0 id) both.0) in
+    rw after (ap (λ (rest : Trie). e ∷ rest) (put-last id node es both.1))
+
+with_node-last : (id : NodeId) (node : Node) (trie : Trie) → 1 ≤ length node.tables → all_before id trie ≡ true → with_node trie id node ≡ trie ++ (id, node) ∷ []
+unfolding with_node
+with_node-last id node trie some h =
+    let any : (length node.tables == 0) ≡ false = ne_eqb (length node.tables) 0 (λ e. omega arith) in
+    rw any (put-last id node trie h)
+
+before-further : (a b : NodeId) (trie : Trie) → node_cmp a b ≡ Less → all_before a trie ≡ true → all_before b trie ≡ true
+before-further a b [] less h = refl
+before-further a b (e ∷ es) less h =
+    let both = and_parts (is_lt (node_cmp e.0 a)) (all_before a es) h in
+    let here : node_cmp e.0 b ≡ Less = node_total.trans e.0 a b (is_less (node_cmp e.0 a) both.0) less in
+    and_from (is_lt (node_cmp e.0 b)) (all_before b es) (ap is_lt here) (before-further a b es less both.1)
+
+-- ---- all nodes
+
+abbrev pub put_nodes : Trie → Result (Trie × ℕ) ℕ → Result (Trie × ℕ) ℕ
+put_nodes es (Ok (rest, at)) = Ok (es ++ rest, at)
+put_nodes es (Err e) = Err e
+
+put_nodes-one : (es : Trie) (e : NodeId × Node) (r : Result (Trie × ℕ) ℕ) → put_nodes es (r >>= (λ (rest : Trie × ℕ). Ok (e ∷ rest.0, rest.1))) ≡ put_nodes (es ++ e ∷ []) r
+put_nodes-one es e (Ok (rest, at)) = ap (λ (all : Trie). Ok (all, at)) (sym (append_assoc es (e ∷ []) rest))
+put_nodes-one es e (Err at) = refl
+
+put_nodes-none : (r : Result (Trie × ℕ) ℕ) → r ≡ put_nodes [] r
+put_nodes-none (Ok (rest, at)) = refl
+put_nodes-none (Err e) = refl
+
+named-push : (trie : Trie) (id : NodeId) (n : Node) → named (trie ++ (id, n) ∷ []) ≡ named trie ++ node_extents n
+named-push trie id n = flat_map-append (λ (e : NodeId × Node). node_extents e.1) trie ((id, n) ∷ []) ∙ ap (λ xs. named trie ++ xs) (append-nil (node_extents n))
+
+turned : (a b : Bool) → (a || b) ≡ (b || a)
+turned true true = refl
+turned true false = refl
+turned false true = refl
+turned false false = refl
+
+pub same-turned : (xs ys : List ℕ) → SameNumbers (xs ++ ys) (ys ++ xs)
+same-turned xs ys z = list_any-append (λ q. q == z) xs ys ∙ turned (is_in z xs) (is_in z ys) ∙ sym (list_any-append (λ q. q == z) ys xs)
+
+pub are_new-wider : (trie : Trie) (xs : List ℕ) (extents : ℕ) → extents ≤ 65536 → IsTrue (are_new extents trie xs) → IsTrue (are_new 65536 trie xs)
+are_new-wider trie xs extents few new =
+    let outer = and_parts (all_distinct xs && all_below extents xs) (list_all (λ x. not (is_in x (named trie))) xs) new in
+    let inner = and_parts (all_distinct xs) (all_below extents xs) outer.0 in
+    and_from _ (list_all (λ x. not (is_in x (named trie))) xs) (and_from (all_distinct xs) (all_below 65536 xs) inner.0 (below-times 65536 xs (λ x past. times-below extents xs inner.1 x (omega arith)))) outer.1
+
+module _ (bytes : ℕ → ℕ) (limit levels extents count : ℕ) where
+  -- what was read after so many nodes
+  pub record IsTrieRead (marks : List Bool) (done : ℕ) (trie : Trie) (last : Option NodeId) (place : ℕ) : Type 0 where
+    pub marks_are : AreMarks marks (named trie)
+    pub goes_on : nodes_read bytes limit levels extents count None [] 40 ≡ put_nodes trie (nodes_read bytes limit levels extents (count - done) last (named trie) place)
+    pub trie_is : IsTrie levels extents trie
+    pub last_is : (id : NodeId) → follows last id ≡ true → all_before id trie ≡ true
+
+  pub nodes-none : (marks : List Bool) → AreMarks marks [] → IsTrieRead marks 0 [] None 40
+  nodes-none marks are =
+      let all : count ≡ count - 0 = omega arith in
+      record {
+        marks_are = are;
+        goes_on = put_nodes-none _ ∙ ap (λ k. put_nodes [] (nodes_read bytes limit levels extents k None [] 40)) all;
+        trie_is = record { rising = refl; nodes = refl; distinct = refl; below = refl };
+        last_is = λ id comes. refl;
+      }
+
+  nodes-step : (n place next : ℕ) (trie : Trie) (last : Option NodeId) (id : NodeId) (node : Node) → node_read bytes limit levels extents last (named trie) place ≡ Ok ((id, node), next)
+      → put_nodes trie (nodes_read bytes limit levels extents (suc n) last (named trie) place) ≡ put_nodes (trie ++ (id, node) ∷ []) (nodes_read bytes limit levels extents n (Some id) (named (trie ++ (id, node) ∷ [])) next)
+  unfolding nodes_read
+  nodes-step n place next trie last id node read =
+      let same : SameNumbers (node_extents node ++ named trie) (named (trie ++ (id, node) ∷ [])) = subst (SameNumbers (node_extents node ++ named trie)) (sym (named-push trie id node)) (same-turned (node_extents node) (named trie)) in
+      rw read (put_nodes-one trie (id, node) (nodes_read bytes limit levels extents n (Some id) (node_extents node ++ named trie) next)
+      ∙ ap (put_nodes (trie ++ (id, node) ∷ [])) (nodes_read-same bytes bytes limit (λ i within. refl) levels extents n (Some id) (node_extents node ++ named trie) (named (trie ++ (id, node) ∷ [])) next same))
+
+  pub nodes-more : (mid new : List Bool) (done place next : ℕ) (trie : Trie) (last_id : Option NodeId) (id : NodeId) (node : Node) → done < count → IsTrieRead mid done trie last_id place
+      → node_read bytes limit levels extents last_id (named trie) place ≡ Ok ((id, node), next) → AreMarks new (node_extents node ++ named trie) → follows last_id id ≡ true → is_node levels id ≡ true → 1 ≤ length node.tables → is_shaped levels extents id node ≡ true
+      → are_new extents trie (node_extents node) ≡ true → IsTrieRead new (done + 1) (with_node trie id node) (Some id) next
+  nodes-more mid new done place next trie last_id id node some so_far read marks comes there tables shaped fresh =
+      let one : count - done ≡ suc (count - (done + 1)) = omega arith in
+      let behind : all_before id trie ≡ true = so_far.last_is id comes in
+      let same : SameNumbers (node_extents node ++ named trie) (named (trie ++ (id, node) ∷ [])) = subst (SameNumbers (node_extents node ++ named trie)) (sym (named-push trie id node)) (same-turned (node_extents node) (named trie)) in
+      let set = set-trie levels extents trie id node so_far.trie_is there shaped fresh in
+      let last : with_node trie id node ≡ trie ++ (id, node) ∷ [] = with_node-last id node trie tables behind in
+      subst (λ (t : Trie). IsTrieRead new (done + 1) t (Some id) next) (sym last) (record {
+        marks_are = λ z within. marks z within ∙ same z;
+        goes_on = so_far.goes_on ∙ ap (λ k. put_nodes trie (nodes_read bytes limit levels extents k last_id (named trie) place)) one ∙ nodes-step (count - (done + 1)) place next trie last_id id node read;
+        trie_is = subst (IsTrie levels extents) last set;
+        last_is = λ q less. list_all-append (λ (e : NodeId × Node). is_lt (node_cmp e.0 q)) trie ((id, node) ∷ []) ∙ and_from (all_before q trie) (all_before q ((id, node) ∷ [])) (before-further id q trie (is_less (node_cmp id q) less) behind) (and_from (is_lt (node_cmp id q)) true less refl);
+      })
+
+  nodes-bad : (n place e : ℕ) (trie : Trie) (last : Option NodeId) → node_read bytes limit levels extents last (named trie) place ≡ Err e → nodes_read bytes limit levels extents (suc n) last (named trie) place ≡ Err e
+  unfolding nodes_read
+  nodes-bad n place e trie last read = rw read refl
+
+  pub nodes-fault : (mid : List Bool) (done place e : ℕ) (trie : Trie) (last : Option NodeId) → done < count → IsTrieRead mid done trie last place → node_read bytes limit levels extents last (named trie) place ≡ Err e → nodes_read bytes limit levels extents count None [] 40 ≡ Err e
+  nodes-fault mid done place e trie last some so_far read =
+      let one : count - done ≡ suc (count - (done + 1)) = omega arith in
+      so_far.goes_on ∙ ap (λ k. put_nodes trie (nodes_read bytes limit levels extents k last (named trie) place)) one ∙ ap (put_nodes trie) (nodes-bad (count - (done + 1)) place e trie last read)
+
+  pub nodes-all : (new : List Bool) (done place : ℕ) (trie : Trie) (last : Option NodeId) → count ≤ done → IsTrieRead new done trie last place → nodes_read bytes limit levels extents count None [] 40 ≡ Ok (trie, place)
+  unfolding nodes_read
+  nodes-all new done place trie last all so_far =
+      let none : count - done ≡ 0 = omega arith in
+      let end : nodes_read bytes limit levels extents (count - done) last (named trie) place ≡ Ok ([], place) = rw none refl in
+      so_far.goes_on ∙ ap (put_nodes trie) end ∙ ap (λ (es : Trie). Ok (es, place)) (append-nil trie)

@@ -1,0 +1,39 @@
+use Rattle.std.proofs.Common.{◌<◌, ◌∙◌, ap, false, arith}
+use Rattle.lt_device.specs.State.{State}
+use Rattle.lt_device.proofs.Runs.{confined_writes}
+use Rattle.lt_format.specs.Layout.{edit_gate, gate_page}
+use Rattle.lt_manifest.specs.Written.{InEdits}
+use Rattle.lt_manifest.proofs.WriteLaws.{written-more, shows-writes, comes-writes}
+use Rattle.lt_manifest.proofs.area.close_edits.Goals as goal
+
+pub returns-in_err-write-clause-confined : goal.returns-in_err-write-clause-confined
+returns-in_err-write-clause-confined g c =
+    let inside : InEdits c.args.area c.edit_gate.result = (omega (arith, c.edit_gate.ensures), omega (arith, c.edit_gate.ensures, c.loop-slot-test.true)) in
+    confined_writes c.write.ensures.wrote c.loop-slot.invariant.confined inside
+
+pub returns-in_err-write-clause-others : goal.returns-in_err-write-clause-others
+returns-in_err-write-clause-others g c =
+    let inside : InEdits c.args.area c.edit_gate.result = (omega (arith, c.edit_gate.ensures), omega (arith, c.edit_gate.ensures, c.loop-slot-test.true)) in
+    shows-writes (InEdits c.args.area) _ _ _ _ _ c.write.ensures.wrote inside c.loop-slot.invariant.others
+
+pub returns-in_err-write-clause-kept : goal.returns-in_err-write-clause-kept
+returns-in_err-write-clause-kept g c =
+    let inside : InEdits c.args.area c.edit_gate.result = (omega (arith, c.edit_gate.ensures), omega (arith, c.edit_gate.ensures, c.loop-slot-test.true)) in
+    comes-writes (InEdits c.args.area) _ _ _ _ _ c.write.ensures.wrote inside c.loop-slot.invariant.kept
+
+pub loop-slot-preserved : goal.loop-slot-preserved
+loop-slot-preserved g c =
+    let so_far = c.loop-slot.invariant in
+    let write = c.write.ensures in
+    let inside : InEdits c.args.area c.edit_gate.result = (omega (arith, c.edit_gate.ensures), omega (arith, c.edit_gate.ensures, c.loop-slot-test.true)) in
+    let in_range : c.edit_gate.result < g.D.Device.blocks c.loop-slot.device = omega (arith, c.edit_gate.ensures, c.loop-slot-test.true, so_far.size, c.requires.within, c.requires.area) in
+    record {
+      written = written-more (edit_gate c.args.area) (λ k. gate_page false) c.loop-slot.slot _ _ _ _ _ c.edit_gate.ensures (λ k earlier e. omega arith) in_range write.wrote.fit c.in_ok-write.ensures.ok c.write_gate.ensures so_far.written;
+      confined = confined_writes write.wrote so_far.confined inside;
+      others = shows-writes (InEdits c.args.area) _ _ _ _ _ write.wrote inside so_far.others;
+      kept = comes-writes (InEdits c.args.area) _ _ _ _ _ write.wrote inside so_far.kept;
+      past = ap (λ (s : State). s.past) write.wrote.is ∙ so_far.past;
+      size = write.size ∙ so_far.size;
+      count = write.count ∙ so_far.count;
+      faults = omega (arith, so_far.faults, write.cause.later);
+    }

@@ -1,0 +1,19 @@
+use Rattle.std.proofs.Common.{◌≡◌, ◌≤◌, false}
+use Rattle.lt_device.specs.Moments.{ConfinedTo}
+use Rattle.lt_format.specs.Layout.{edit_gate, gate_page}
+use Rattle.lt_manifest.specs.Moments.{ShowsSameOutside}
+use Rattle.lt_manifest.specs.Written.{AreWritten, ComesFrom, InEdits}
+use Rattle.lt_manifest.proofs.area.close_edits.Given as goal
+
+-- the blocks so far are written
+abbrev pub invariant-loop-slot : goal.invariant-loop-slot
+invariant-loop-slot g l = record {
+  written : AreWritten (edit_gate l.area) (λ k. gate_page false) l.slot (g.D.Device.state l.device).shown;
+  confined : ConfinedTo (InEdits l.area) (g.D.Device.state l.fn.device) (g.D.Device.state l.device);
+  others : ShowsSameOutside (InEdits l.area) (g.D.Device.state l.fn.device).shown (g.D.Device.state l.device).shown;
+  kept : ComesFrom (InEdits l.area) (g.D.Device.state l.fn.device).shown (g.D.Device.state l.device).shown;
+  past : (g.D.Device.state l.device).past ≡ (g.D.Device.state l.fn.device).past;
+  size : g.D.Device.blocks l.device ≡ g.D.Device.blocks l.fn.device;
+  count : g.D.Device.reads l.device ≡ g.D.Device.reads l.fn.device;
+  faults : g.D.Device.faults l.fn.device ≤ g.D.Device.faults l.device;
+}

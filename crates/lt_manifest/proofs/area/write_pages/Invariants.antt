@@ -1,0 +1,18 @@
+use Rattle.std.proofs.Common.{◌≡◌, ◌+◌, ◌≤◌}
+use Rattle.lt_device.specs.Moments.{ConfinedTo}
+use Rattle.lt_format.specs.Layout.{area_block}
+use Rattle.lt_manifest.specs.Moments.{ShowsSameOutside}
+use Rattle.lt_manifest.specs.Written.{AreWritten, InArea, page_of}
+use Rattle.lt_manifest.proofs.area.write_pages.Given as goal
+
+-- the blocks so far are written
+abbrev pub invariant-loop-block : goal.invariant-loop-block
+invariant-loop-block g l = record {
+  written : AreWritten (λ k. area_block l.area + k) (page_of l.bytes) l.block (g.D.Device.state l.device).shown;
+  confined : ConfinedTo (InArea l.area) (g.D.Device.state l.fn.device) (g.D.Device.state l.device);
+  others : ShowsSameOutside (InArea l.area) (g.D.Device.state l.fn.device).shown (g.D.Device.state l.device).shown;
+  past : (g.D.Device.state l.device).past ≡ (g.D.Device.state l.fn.device).past;
+  size : g.D.Device.blocks l.device ≡ g.D.Device.blocks l.fn.device;
+  count : g.D.Device.reads l.device ≡ g.D.Device.reads l.fn.device;
+  faults : g.D.Device.faults l.fn.device ≤ g.D.Device.faults l.device;
+}

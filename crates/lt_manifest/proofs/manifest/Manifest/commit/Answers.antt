@@ -1,0 +1,125 @@
+use Rattle.std.proofs.Common.{◌≡◌, ℕ, ◌-◌, ◌≤◌, ◌∙◌, ap, sym, subst, length, IsTrue, arith}
+use Rattle.lt_device.specs.Moments.{Leaves}
+use Rattle.lt_format.specs.declared.header.Header.{Header}
+use Rattle.lt_format.specs.Snapshot.{Manifest, snapshot_bytes, extents_stand}
+use Rattle.lt_format.specs.Trie.{Trie}
+use Rattle.lt_format.specs.Naming.{Named, may_commit, after_commit}
+use Rattle.lt_node.specs.Changing.{change_of}
+use Rattle.lt_manifest.specs.Opened.{named_by}
+use Rattle.lt_manifest.specs.Moments.{HasOldOrNew}
+use Rattle.lt_manifest.proofs.ManifestLaws.{IsReady, ready-same, ready-stands, ready-held, ready-next, bytes-fit, AnyMoment, Committed}
+use Rattle.lt_manifest.proofs.manifest.Manifest.commit.Goals as goal
+
+pub spell-requires-clause-few : goal.spell-requires-clause-few
+spell-requires-clause-few g c =
+    let i = c.self.inside in
+    let blocks : ℕ = g.D.Device.blocks c.args.device.now in
+    let ready : IsReady i.geometry i.area blocks i.header i.trie (change_of c.args.change.now) c.kept-self-inside.result c.apply.new.self = record {
+      held = c.self.invariant;
+      stands = subst (λ (n : Named). IsTrue (extents_stand n.geometry blocks n.manifest.header.extents)) (sym c.self.view_is) c.requires.stands;
+      may = subst (λ (h : Header). IsTrue (may_commit i.geometry.levels (record { header = i.header; trie = i.trie.nodes }) (change_of c.args.change.now) h)) (sym c.kept-self-inside.ensures.same)
+          (subst (λ (n : Named). IsTrue (may_commit n.geometry.levels n.manifest (change_of c.args.change.now) c.args.header.now)) (sym c.self.view_is) c.requires.may);
+      writes = c.kept-self-inside.ensures.writes;
+      applied = c.in_ok-apply.ensures.ok;
+    } in
+    subst (λ (t : Trie). length (snapshot_bytes (record { header = c.kept-self-inside.result; trie = t })) ≤ 1249280) (sym c.nodes.ensures.nodes) (bytes-fit i.geometry blocks _ (ready-stands i.geometry i.area blocks i.header i.trie (change_of c.args.change.now) c.kept-self-inside.result c.apply.new.self ready))
+
+pub replace-requires-clause-room : goal.replace-requires-clause-room
+replace-requires-clause-room g c =
+    let i = c.self.inside in
+    let blocks : ℕ = g.D.Device.blocks c.args.device.now in
+    let ready : IsReady i.geometry i.area blocks i.header i.trie (change_of c.args.change.now) c.kept-self-inside.result c.apply.new.self = record {
+      held = c.self.invariant;
+      stands = subst (λ (n : Named). IsTrue (extents_stand n.geometry blocks n.manifest.header.extents)) (sym c.self.view_is) c.requires.stands;
+      may = subst (λ (h : Header). IsTrue (may_commit i.geometry.levels (record { header = i.header; trie = i.trie.nodes }) (change_of c.args.change.now) h)) (sym c.kept-self-inside.ensures.same)
+          (subst (λ (n : Named). IsTrue (may_commit n.geometry.levels n.manifest (change_of c.args.change.now) c.args.header.now)) (sym c.self.view_is) c.requires.may);
+      writes = c.kept-self-inside.ensures.writes;
+      applied = c.in_ok-apply.ensures.ok;
+    } in
+    let m : Manifest = record { header = c.kept-self-inside.result; trie = c.apply.new.self.nodes } in
+    let spelled : c.deref.result.now ≡ snapshot_bytes m = c.deref.ensures.value ∙ c.spell.ensures ∙ ap (λ (t : Trie). snapshot_bytes (record { header = c.kept-self-inside.result; trie = t })) c.nodes.ensures.nodes in
+    let fits = bytes-fit i.geometry blocks m (ready-stands i.geometry i.area blocks i.header i.trie (change_of c.args.change.now) c.kept-self-inside.result c.apply.new.self ready) in
+    omega (arith, ap length spelled, fits)
+
+pub invariant_of-self-in_err-replace : goal.invariant_of-self-in_err-replace
+invariant_of-self-in_err-replace g c =
+    let i = c.self.inside in
+    let blocks : ℕ = g.D.Device.blocks c.args.device.now in
+    let ready : IsReady i.geometry i.area blocks i.header i.trie (change_of c.args.change.now) c.kept-self-inside.result c.apply.new.self = record {
+      held = c.self.invariant;
+      stands = subst (λ (n : Named). IsTrue (extents_stand n.geometry blocks n.manifest.header.extents)) (sym c.self.view_is) c.requires.stands;
+      may = subst (λ (h : Header). IsTrue (may_commit i.geometry.levels (record { header = i.header; trie = i.trie.nodes }) (change_of c.args.change.now) h)) (sym c.kept-self-inside.ensures.same)
+          (subst (λ (n : Named). IsTrue (may_commit n.geometry.levels n.manifest (change_of c.args.change.now) c.args.header.now)) (sym c.self.view_is) c.requires.may);
+      writes = c.kept-self-inside.ensures.writes;
+      applied = c.in_ok-apply.ensures.ok;
+    } in
+    ready-held i.geometry i.area blocks i.header i.trie (change_of c.args.change.now) c.kept-self-inside.result c.apply.new.self ready i.area c.self.invariant.kept.area
+
+pub invariant_of-self-2 : goal.invariant_of-self-2
+invariant_of-self-2 g c =
+    let i = c.self.inside in
+    let blocks : ℕ = g.D.Device.blocks c.args.device.now in
+    let ready : IsReady i.geometry i.area blocks i.header i.trie (change_of c.args.change.now) c.kept-self-inside.result c.apply.new.self = record {
+      held = c.self.invariant;
+      stands = subst (λ (n : Named). IsTrue (extents_stand n.geometry blocks n.manifest.header.extents)) (sym c.self.view_is) c.requires.stands;
+      may = subst (λ (h : Header). IsTrue (may_commit i.geometry.levels (record { header = i.header; trie = i.trie.nodes }) (change_of c.args.change.now) h)) (sym c.kept-self-inside.ensures.same)
+          (subst (λ (n : Named). IsTrue (may_commit n.geometry.levels n.manifest (change_of c.args.change.now) c.args.header.now)) (sym c.self.view_is) c.requires.may);
+      writes = c.kept-self-inside.ensures.writes;
+      applied = c.in_ok-apply.ensures.ok;
+    } in
+    ready-held i.geometry i.area blocks i.header i.trie (change_of c.args.change.now) c.kept-self-inside.result c.apply.new.self ready (1 - i.area) (omega (arith, c.self.invariant.kept.area))
+
+pub returns-in_err-replace-clause-any_moment : goal.returns-in_err-replace-clause-any_moment
+returns-in_err-replace-clause-any_moment g c =
+    let i = c.self.inside in
+    let blocks : ℕ = g.D.Device.blocks c.args.device.now in
+    let ready : IsReady i.geometry i.area blocks i.header i.trie (change_of c.args.change.now) c.kept-self-inside.result c.apply.new.self = record {
+      held = c.self.invariant;
+      stands = subst (λ (n : Named). IsTrue (extents_stand n.geometry blocks n.manifest.header.extents)) (sym c.self.view_is) c.requires.stands;
+      may = subst (λ (h : Header). IsTrue (may_commit i.geometry.levels (record { header = i.header; trie = i.trie.nodes }) (change_of c.args.change.now) h)) (sym c.kept-self-inside.ensures.same)
+          (subst (λ (n : Named). IsTrue (may_commit n.geometry.levels n.manifest (change_of c.args.change.now) c.args.header.now)) (sym c.self.view_is) c.requires.may);
+      writes = c.kept-self-inside.ensures.writes;
+      applied = c.in_ok-apply.ensures.ok;
+    } in
+    let m : Manifest = record { header = c.kept-self-inside.result; trie = c.apply.new.self.nodes } in
+    let spelled : c.deref.result.now ≡ snapshot_bytes m = c.deref.ensures.value ∙ c.spell.ensures ∙ ap (λ (t : Trie). snapshot_bytes (record { header = c.kept-self-inside.result; trie = t })) c.nodes.ensures.nodes in
+    let now : m ≡ after_commit (record { header = i.header; trie = i.trie.nodes }) (change_of c.args.change.now) c.args.header.now = ready-same i.geometry i.area blocks i.header i.trie (change_of c.args.change.now) c.kept-self-inside.result c.apply.new.self ready ∙ ap (after_commit (record { header = i.header; trie = i.trie.nodes }) (change_of c.args.change.now)) c.kept-self-inside.ensures.same in
+    subst (AnyMoment (change_of c.args.change.now) c.args.header.now (g.D.Device.state c.args.device.now) (g.D.Device.state c.replace.new.device)) c.self.view_is
+    (λ shown told rests. subst (λ (n : Manifest). Leaves (HasOldOrNew (named_by i.geometry i.area i.header i.trie.nodes) n shown) (g.D.Device.state c.args.device.now) (g.D.Device.state c.replace.new.device)) now
+    (c.replace.ensures.any_moment (named_by i.geometry i.area i.header i.trie.nodes) m shown (ready-next i.geometry i.area blocks i.header i.trie (change_of c.args.change.now) c.kept-self-inside.result c.apply.new.self ready c.deref.result.now spelled) told rests))
+
+pub returns-clause-any_moment : goal.returns-clause-any_moment
+returns-clause-any_moment g c =
+    let i = c.self.inside in
+    let blocks : ℕ = g.D.Device.blocks c.args.device.now in
+    let ready : IsReady i.geometry i.area blocks i.header i.trie (change_of c.args.change.now) c.kept-self-inside.result c.apply.new.self = record {
+      held = c.self.invariant;
+      stands = subst (λ (n : Named). IsTrue (extents_stand n.geometry blocks n.manifest.header.extents)) (sym c.self.view_is) c.requires.stands;
+      may = subst (λ (h : Header). IsTrue (may_commit i.geometry.levels (record { header = i.header; trie = i.trie.nodes }) (change_of c.args.change.now) h)) (sym c.kept-self-inside.ensures.same)
+          (subst (λ (n : Named). IsTrue (may_commit n.geometry.levels n.manifest (change_of c.args.change.now) c.args.header.now)) (sym c.self.view_is) c.requires.may);
+      writes = c.kept-self-inside.ensures.writes;
+      applied = c.in_ok-apply.ensures.ok;
+    } in
+    let m : Manifest = record { header = c.kept-self-inside.result; trie = c.apply.new.self.nodes } in
+    let spelled : c.deref.result.now ≡ snapshot_bytes m = c.deref.ensures.value ∙ c.spell.ensures ∙ ap (λ (t : Trie). snapshot_bytes (record { header = c.kept-self-inside.result; trie = t })) c.nodes.ensures.nodes in
+    let now : m ≡ after_commit (record { header = i.header; trie = i.trie.nodes }) (change_of c.args.change.now) c.args.header.now = ready-same i.geometry i.area blocks i.header i.trie (change_of c.args.change.now) c.kept-self-inside.result c.apply.new.self ready ∙ ap (after_commit (record { header = i.header; trie = i.trie.nodes }) (change_of c.args.change.now)) c.kept-self-inside.ensures.same in
+    subst (AnyMoment (change_of c.args.change.now) c.args.header.now (g.D.Device.state c.args.device.now) (g.D.Device.state c.replace.new.device)) c.self.view_is
+    (λ shown told rests. subst (λ (n : Manifest). Leaves (HasOldOrNew (named_by i.geometry i.area i.header i.trie.nodes) n shown) (g.D.Device.state c.args.device.now) (g.D.Device.state c.replace.new.device)) now
+    (c.replace.ensures.any_moment (named_by i.geometry i.area i.header i.trie.nodes) m shown (ready-next i.geometry i.area blocks i.header i.trie (change_of c.args.change.now) c.kept-self-inside.result c.apply.new.self ready c.deref.result.now spelled) told rests))
+
+pub returns-clause-committed : goal.returns-clause-committed
+returns-clause-committed g c =
+    let i = c.self.inside in
+    let blocks : ℕ = g.D.Device.blocks c.args.device.now in
+    let ready : IsReady i.geometry i.area blocks i.header i.trie (change_of c.args.change.now) c.kept-self-inside.result c.apply.new.self = record {
+      held = c.self.invariant;
+      stands = subst (λ (n : Named). IsTrue (extents_stand n.geometry blocks n.manifest.header.extents)) (sym c.self.view_is) c.requires.stands;
+      may = subst (λ (h : Header). IsTrue (may_commit i.geometry.levels (record { header = i.header; trie = i.trie.nodes }) (change_of c.args.change.now) h)) (sym c.kept-self-inside.ensures.same)
+          (subst (λ (n : Named). IsTrue (may_commit n.geometry.levels n.manifest (change_of c.args.change.now) c.args.header.now)) (sym c.self.view_is) c.requires.may);
+      writes = c.kept-self-inside.ensures.writes;
+      applied = c.in_ok-apply.ensures.ok;
+    } in
+    let m : Manifest = record { header = c.kept-self-inside.result; trie = c.apply.new.self.nodes } in
+    let spelled : c.deref.result.now ≡ snapshot_bytes m = c.deref.ensures.value ∙ c.spell.ensures ∙ ap (λ (t : Trie). snapshot_bytes (record { header = c.kept-self-inside.result; trie = t })) c.nodes.ensures.nodes in
+    subst (Committed (g.D.Device.state c.args.device.now) (g.D.Device.state c.replace.new.device) (named_by i.geometry (1 - i.area) c.kept-self-inside.result c.apply.new.self.nodes)) c.self.view_is
+    (λ shown told rests. c.in_ok-replace.ensures.committed (named_by i.geometry i.area i.header i.trie.nodes) m shown (ready-next i.geometry i.area blocks i.header i.trie (change_of c.args.change.now) c.kept-self-inside.result c.apply.new.self ready c.deref.result.now spelled) told rests)

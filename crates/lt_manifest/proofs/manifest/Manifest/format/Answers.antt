@@ -1,0 +1,32 @@
+use Rattle.std.proofs.Common.{◌∙◌, ap, sym, subst, length, IsTrue, arith}
+use Rattle.lt_device.proofs.Runs.{confined_widens, confined_writes}
+use Rattle.lt_format.specs.Snapshot.{extents_stand}
+use Rattle.lt_format.specs.Naming.{InManifest}
+use Rattle.lt_manifest.specs.Opened.{fresh}
+use Rattle.lt_manifest.proofs.ManifestLaws.{bytes-fit, roomy-below, fresh-stands, fresh-gates, fresh-named}
+use Rattle.lt_manifest.proofs.manifest.Manifest.format.Goals as goal
+
+pub spell-requires-clause-few : goal.spell-requires-clause-few
+spell-requires-clause-few g c = bytes-fit c.args.geometry.now (g.D.Device.blocks c.args.device.now) (fresh c.args.geometry.now c.args.extents).manifest (fresh-stands c.args.geometry.now (g.D.Device.blocks c.args.device.now) c.args.extents c.requires.stands)
+
+pub fill_area-requires-clause-room : goal.fill_area-requires-clause-room
+fill_area-requires-clause-room g c = omega (arith, ap length (c.deref.ensures.value ∙ c.spell.ensures), bytes-fit c.args.geometry.now (g.D.Device.blocks c.args.device.now) (fresh c.args.geometry.now c.args.extents).manifest (fresh-stands c.args.geometry.now (g.D.Device.blocks c.args.device.now) c.args.extents c.requires.stands))
+
+pub returns-in_err-fill_area-clause-confined : goal.returns-in_err-fill_area-clause-confined
+returns-in_err-fill_area-clause-confined g c = confined_widens c.fill_area.ensures.confined (λ k inside. (omega (arith, inside.0), omega (arith, inside.1)))
+
+pub returns-in_err-write-clause-confined : goal.returns-in_err-write-clause-confined
+returns-in_err-write-clause-confined g c = confined_writes c.write.ensures.wrote (confined_widens {T = InManifest} c.fill_area.ensures.confined (λ k inside. (omega (arith, inside.0), omega (arith, inside.1)))) (omega arith, omega arith)
+
+pub returns-clause-confined : goal.returns-clause-confined
+returns-clause-confined g c = confined_writes c.write.ensures.wrote (confined_widens {T = InManifest} c.fill_area.ensures.confined (λ k inside. (omega (arith, inside.0), omega (arith, inside.1)))) (omega arith, omega arith)
+
+pub returns-clause-named : goal.returns-clause-named
+returns-clause-named g c = λ image told.
+    let stands = subst (λ n. IsTrue (extents_stand c.args.geometry.now n c.args.extents)) (sym c.fill_area.ensures.size) c.requires.stands in
+    fresh-named (g.D.Device.blocks c.fill_area.new.device) (g.D.Device.state c.fill_area.new.device) (g.D.Device.state c.write.new.self) _ c.deref.result.now c.write.ensures.wrote c.in_ok-write.ensures.ok c.fill_selector.ensures (roomy-below c.args.geometry.now (g.D.Device.blocks c.args.device.now) (g.D.Device.blocks c.fill_area.new.device) c.args.extents c.requires.stands c.fill_area.ensures.size) c.in_ok-fill_area.ensures.written image told
+    c.args.geometry.now c.args.extents c.requires.valid stands (c.deref.ensures.value ∙ c.spell.ensures)
+
+pub returns-clause-gates : goal.returns-clause-gates
+returns-clause-gates g c = λ image told.
+    fresh-gates (g.D.Device.blocks c.fill_area.new.device) (g.D.Device.state c.fill_area.new.device) (g.D.Device.state c.write.new.self) _ c.deref.result.now c.write.ensures.wrote c.in_ok-write.ensures.ok c.fill_selector.ensures (roomy-below c.args.geometry.now (g.D.Device.blocks c.args.device.now) (g.D.Device.blocks c.fill_area.new.device) c.args.extents c.requires.stands c.fill_area.ensures.size) c.in_ok-fill_area.ensures.written image told

@@ -1,0 +1,140 @@
+//! Writing a manifest area and selecting it.
+
+ghost use Rattle.std.specs.Prelude.{◌≡◌, ℕ, ◌+◌, ◌*◌, ◌<◌, ◌≤◌, Some, false, [], ◌∷◌, OnOk, length};
+ghost use Rattle.std.specs.Option.{ForSome};
+ghost use Rattle.lt_terms.specs.Bytes.{Image, block_at, block_of};
+ghost use Rattle.lt_terms.specs.Causes.{HasCause};
+ghost use Rattle.lt_device.specs.Image.{SameOutside};
+ghost use Rattle.lt_device.specs.State.{IsFit};
+ghost use Rattle.lt_device.specs.Moments.{MayLeave, ConfinedTo, UnsyncedIn};
+ghost use Rattle.lt_format.specs.Layout.{area_block, edit_gate, edit_slots, gate_page};
+ghost use Rattle.lt_manifest.specs.Moments.{ShowsSameOutside};
+ghost use Rattle.lt_manifest.specs.Written.{AreWritten, ComesFrom, HasArea, InArea, InEdits, page_of, page_count};
+
+use lt_device::Device;
+use lt_format::Geometry;
+use lt_layout::write_gate;
+use lt_page::{Failed, Page};
+
+/// Writes these bytes to an area, closes its edit gates, and makes sure of that. The page holds any
+/// bytes afterwards.
+pub fn write_area<D: Device>(
+    device: &mut D,
+    geometry: &Geometry,
+    area: u8,
+    bytes: &[u8],
+    page: &mut Page,
+) -> Result<(), Failed>
+    requires area { area < 2 }
+    requires within { 868 ≤ D.blocks device.old }
+    requires room { length bytes.now ≤ 305 * 4096 }
+    ensures written { OnOk result ((left : Image) → MayLeave (D.state device.new) left → HasArea area bytes.now left) }
+
+    // All that was written before is sure.
+    ensures others_sure { OnOk result ((shown : Image) → (D.state device.old).shown ≡ Some shown → (left : Image) → MayLeave (D.state device.new) left → SameOutside (InArea area) shown left) }
+    ensures fit { OnOk result (IsFit (D.blocks device.new) (D.state device.new)) }
+    ensures confined { ConfinedTo (InArea area) (D.state device.old) (D.state device.new) }
+    ensures others { ShowsSameOutside (InArea area) (D.state device.old).shown (D.state device.new).shown }
+    ensures size { D.blocks device.new ≡ D.blocks device.old }
+    ensures count { D.reads device.new ≡ D.reads device.old }
+    ensures cause { HasCause (D.faults device.old) (D.faults device.new) result }
+{
+    fill_area(device, geometry, area, bytes, page)?;
+    device.sync()
+}
+
+/// Writes these bytes to an area, and closes its edit gates. It does not sync.
+pub fn fill_area<D: Device>(
+    device: &mut D,
+    geometry: &Geometry,
+    area: u8,
+    bytes: &[u8],
+    page: &mut Page,
+) -> Result<(), Failed>
+    requires area { area < 2 }
+    requires within { 868 ≤ D.blocks device.old }
+    requires room { length bytes.now ≤ 305 * 4096 }
+    ensures written { OnOk result (ForSome (D.state device.new).shown (HasArea area bytes.now)) }
+    ensures confined { ConfinedTo (InArea area) (D.state device.old) (D.state device.new) }
+    ensures others { ShowsSameOutside (InArea area) (D.state device.old).shown (D.state device.new).shown }
+    ensures no_sync { (D.state device.new).past ≡ (D.state device.old).past }
+    ensures size { D.blocks device.new ≡ D.blocks device.old }
+    ensures count { D.reads device.new ≡ D.reads device.old }
+    ensures cause { HasCause (D.faults device.old) (D.faults device.new) result }
+{
+    write_pages(device, geometry, area, bytes, page)?;
+    close_edits(device, geometry, area, page)
+}
+
+/// Writes these bytes to the blocks from the first one of the area on, with zeros up to the end of the
+/// last.
+fn write_pages<D: Device>(
+    device: &mut D,
+    geometry: &Geometry,
+    area: u8,
+    bytes: &[u8],
+    page: &mut Page,
+) -> Result<(), Failed>
+    requires area { area < 2 }
+    requires within { 868 ≤ D.blocks device.old }
+    requires room { length bytes.now ≤ 305 * 4096 }
+    ensures written { OnOk result (AreWritten (λ k. area_block area + k) (page_of bytes.now) (page_count bytes.now) (D.state device.new).shown) }
+    ensures confined { ConfinedTo (InArea area) (D.state device.old) (D.state device.new) }
+    ensures others { ShowsSameOutside (InArea area) (D.state device.old).shown (D.state device.new).shown }
+    ensures no_sync { (D.state device.new).past ≡ (D.state device.old).past }
+    ensures size { D.blocks device.new ≡ D.blocks device.old }
+    ensures count { D.reads device.new ≡ D.reads device.old }
+    ensures cause { HasCause (D.faults device.old) (D.faults device.new) result }
+{
+    let first = geometry.area(area);
+    for block in 0..bytes.len().div_ceil(Page::LEN) {
+        fill_page(page, bytes, block);
+        device.write(first + block as u64, page)?;
+    }
+    Ok(())
+}
+
+/// Makes the page the block of this number of the bytes.
+fn fill_page(page: &mut Page, bytes: &[u8], block: usize)
+    requires within { 4096 * block < length bytes.now }
+    requires room { length bytes.now ≤ 305 * 4096 }
+    ensures { page.new ≡ page_of bytes.now block }
+{
+    let start = Page::LEN * block;
+    let end = bytes.len().min(start + Page::LEN);
+    page.clear();
+    page.fill_from(0, &bytes[start..end]);
+}
+
+/// Closes all edit gates of an area.
+fn close_edits<D: Device>(
+    device: &mut D,
+    geometry: &Geometry,
+    area: u8,
+    page: &mut Page,
+) -> Result<(), Failed>
+    requires area { area < 2 }
+    requires within { 868 ≤ D.blocks device.old }
+    ensures written { OnOk result (AreWritten (edit_gate area) (λ k. gate_page false) edit_slots (D.state device.new).shown) }
+    ensures confined { ConfinedTo (InEdits area) (D.state device.old) (D.state device.new) }
+    ensures others { ShowsSameOutside (InEdits area) (D.state device.old).shown (D.state device.new).shown }
+    ensures kept { ComesFrom (InEdits area) (D.state device.old).shown (D.state device.new).shown }
+    ensures no_sync { (D.state device.new).past ≡ (D.state device.old).past }
+    ensures size { D.blocks device.new ≡ D.blocks device.old }
+    ensures count { D.reads device.new ≡ D.reads device.old }
+    ensures cause { HasCause (D.faults device.old) (D.faults device.new) result }
+{
+    write_gate(page, false);
+    for slot in 0..64u8 {
+        device.write(geometry.edit_gate(area, slot), page)?;
+    }
+    Ok(())
+}
+
+/// Makes the page the selector of an area.
+pub fn fill_selector(page: &mut Page, area: u8)
+    ensures { page.new ≡ block_of (area ∷ []) }
+{
+    page.clear();
+    page.fill_from(0, &[area]);
+}
