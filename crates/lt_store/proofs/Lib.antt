@@ -4,3 +4,4 @@ pub mod BuildLaws
 pub mod OpenLaws
 pub mod FilterLaws
 pub mod MemoryLaws
+pub mod MakingLaws

@@ -4,3 +4,4 @@ pub mod Kept
 pub mod Open
 pub mod View
 pub mod Reading
+pub mod Making

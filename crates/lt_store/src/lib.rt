@@ -4,8 +4,10 @@
 mod building;
 mod cutting;
 mod faults;
+mod making;
 mod opening;
 mod store;
 
 pub use faults::{InitFault, WriteFault};
+pub use making::init;
 pub use store::Store;
