@@ -1,6 +1,5 @@
 -- What the regions and the superblock of a fresh store make of an image.
-use Rattle.std.proofs.Common.{◌≡◌, ◌≢◌, ℕ, ◌+◌, ◌*◌, ◌<◌, ◌≤◌, refl, sym, ap, subst, ◌∙◌, List, [], length, set, map, Bool, true, false, Option, Some, Ok, Err, Result, arith, IsTrue}
-use Rattle.std.specs.Prelude.{nat_le}
+use Rattle.std.proofs.Common.{◌≡◌, ◌≢◌, ℕ, ◌+◌, ◌<◌, ◌≤◌, refl, sym, ap, subst, ◌∙◌, List, [], length, set, map, Bool, true, false, Some, Ok, Result, arith, IsTrue}
 use Rattle.std.specs.Option.{ForSome, option_map}
 use Rattle.std.proofs.lemmas.Bool.{le-leb}
 use Rattle.std.proofs.lemmas.List.{length-set}
@@ -14,14 +13,13 @@ use Rattle.lt_language.specs.Machine.{nothing_yet}
 use Rattle.lt_format.specs.declared.geometry.Geometry.{Geometry}
 use Rattle.lt_format.specs.Layout.{is_geometry, geometry_of, superblock, selected, selector_block, area_block, log_gate, is_open, blocks_needed}
 use Rattle.lt_format.specs.Snapshot.{Manifest, snapshot_in, ◌>>=◌}
-use Rattle.lt_format.specs.Naming.{Named, InManifest, geometry_in, manifest_in, manifest_of, roomy}
+use Rattle.lt_format.specs.Naming.{InManifest, geometry_in, manifest_in, manifest_of, roomy}
 use Rattle.lt_format.proofs.LocalLaws.{snapshot-local}
 use Rattle.lt_layout.proofs.SuperLaws.{geometry_of-superblock}
 use Rattle.lt_manifest.specs.Moments.{ShowsSameOutside}
 use Rattle.lt_manifest.specs.Opened.{fresh}
 use Rattle.lt_redo.specs.Slots.{IsCleared}
 use Rattle.lt_redo.proofs.ClearLaws.{has_log-cleared}
-use Rattle.lt_image.specs.Opening.{Opened}
 use Rattle.lt_image.specs.Standing.{Stands}
 use Rattle.lt_image.proofs.KeptLaws.{fresh-stands}
 use Rattle.lt_store.specs.Making.{InFresh, HasRegions, IsFresh}

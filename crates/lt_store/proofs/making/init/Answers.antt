@@ -1,4 +1,4 @@
-use Rattle.std.proofs.Common.{◌<◌, ◌≤◌, subst, arith}
+use Rattle.std.proofs.Common.{◌≤◌, subst, arith}
 use Rattle.lt_device.specs.State.{State}
 use Rattle.lt_device.specs.Moments.{ConfinedTo}
 use Rattle.lt_device.proofs.Runs.{confined_within}

@@ -1,8 +1,7 @@
-use Rattle.std.proofs.Common.{◌≡◌, ℕ, List, ◌∙◌, refl, ap, subst}
+use Rattle.std.proofs.Common.{ℕ, List, ◌∙◌, refl, ap, subst}
 use Rattle.std.proofs.lemmas.Result.{on_ok_weaker}
-use Rattle.lt_device.specs.State.{State, IsFit, synced, written}
+use Rattle.lt_device.specs.State.{IsFit, synced, written}
 use Rattle.lt_device.proofs.Runs.{confined_begins, confined_writes, syncs}
-use Rattle.lt_format.specs.Layout.{superblock}
 use Rattle.lt_store.proofs.making.write_superblock.Goals as goal
 
 pub returns-in_err-write-clause-confined : goal.returns-in_err-write-clause-confined
