@@ -19,7 +19,8 @@ use lt_page::{Failed, Page};
 use lt_redo::close_gates;
 use std::alloc::Global;
 
-/// Makes a store without keys, with so many extents, levels of the trie and slots of a log area.
+/// Makes a store without keys: 1 to 65,536 extents, 2 to 5 levels of the trie, and 1 to 512 slots in
+/// each log area.
 ///
 /// `TooSmall` exactly where the device has fewer blocks than are needed; else `Occupied` exactly where
 /// block 0 is not all zero. Nothing is written then.
@@ -84,7 +85,7 @@ fn is_vacant<D: Device>(device: &mut D, page: &mut Page) -> Result<bool, Failed>
 }
 
 /// Closes the gates of the first log area and writes the manifest, and makes sure of both. The page
-/// is a closed gate afterwards.
+/// holds any bytes afterwards.
 fn write_regions<D: Device>(
     alloc: Global,
     device: &mut D,
@@ -108,7 +109,7 @@ fn write_regions<D: Device>(
     Ok(())
 }
 
-/// Writes the superblock and makes sure of it.
+/// Writes the superblock and makes sure of it. The page holds any bytes afterwards.
 fn write_superblock<D: Device>(
     device: &mut D,
     geometry: &Geometry,
