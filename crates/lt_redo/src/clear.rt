@@ -32,7 +32,8 @@ pub fn clear_area<D: Device>(
     device.sync()
 }
 
-fn close_gates<D: Device>(
+/// Closes all gates of a log area. It does not sync.
+pub fn close_gates<D: Device>(
     device: &mut D,
     geometry: &Geometry,
     area: u8,

@@ -11,6 +11,7 @@ mod slot;
 #[cfg(test)]
 mod tests;
 
+pub use clear::close_gates;
 pub use laws::logs_are_local;
 pub use log::{GroupFull, Log};
 pub use lt_layout::{Geometry, OpenFault};

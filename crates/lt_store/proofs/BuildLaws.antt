@@ -1,9 +1,9 @@
 -- Tables that are built one after another.
-use Rattle.std.proofs.Common.{◌≡◌, ◌≢◌, ℕ, zero, suc, ◌+◌, ◌<◌, ◌≤◌, refl, sym, ap, subst, ◌∙◌, List, [], ◌∷◌, length, map, get_or, set, Bool, true, false, Option, Some, None, arith, ⊎_elim}
+use Rattle.std.proofs.Common.{◌≡◌, ◌≢◌, ℕ, zero, suc, ◌+◌, ◌<◌, ◌≤◌, refl, sym, ap, subst, ◌∙◌, List, [], ◌∷◌, length, map, get_or, set, true, false, Option, Some, None, arith, ⊎_elim}
 use Rattle.std.specs.List.{AllZip}
-use Rattle.std.proofs.lemmas.List.{get_or-set_same, get_or-set_other, length-map}
+use Rattle.std.proofs.lemmas.List.{get_or-set_same, get_or-set_other}
 use Rattle.std.proofs.lemmas.Bool.{cases_eq, true≢false}
-use Rattle.lt_terms.specs.Bytes.{Image, block_at}
+use Rattle.lt_terms.specs.Bytes.{Image}
 use Rattle.lt_terms.specs.Items.{Item}
 use Rattle.lt_device.specs.State.{State}
 use Rattle.lt_device.specs.Image.{SameOutside}
@@ -18,7 +18,7 @@ use Rattle.lt_format.specs.Layout.{extent_block}
 use Rattle.lt_format.specs.Trie.{all_distinct}
 use Rattle.lt_htable.specs.Building.{InExtent, ShowsSameOutside}
 use Rattle.lt_image.specs.Versions.{extent_in}
-use Rattle.lt_store.specs.Building.{InExtents, HasTable, KeepsFilter}
+use Rattle.lt_store.specs.Building.{InExtents, HasTable}
 use Rattle.lt_store.proofs.NumberLaws.{is_in-at, apart-at, extents-apart}
 
 -- ---- what a table rests on
@@ -109,15 +109,15 @@ AreBuilt-more g start kept after old mid new numbers tables i x first items page
           (subst (λ n. HasTable g (set kept x (Some page)) image n (get_or tables i [])) x_is
           (subst (λ ts. HasTable g (set kept x (Some page)) image x ts) items_is (new_table g kept new image x first items page small is shown written))))
           (λ (other : k ≡ i → ⊥).
-              let lower : k < i = omega arith in
-              let differ : get_or numbers k 0 ≢ x = λ same. apart-at numbers k i distinct lower below (same ∙ x_is) in
-              let middle = built.shows.each before was in
-              let now = writing.shows.each middle.0 middle.1 in
-              let last : now.0 ≡ image = same_some new.shown now.0 image now.1 shown in
-              table-stays g kept (set kept x (Some page)) middle.0 image (get_or numbers k 0) x (get_or tables k []) differ
-              (get_or-set_other kept x (get_or numbers k 0) (Some page) None differ)
-              (subst (λ to. SameOutside (InExtent (extent_block g x)) middle.0 to) last (subst (λ n. SameOutside (InExtent n) middle.0 now.0) is now.2))
-              (built.each before middle.0 was middle.1 k lower))
+          let lower : k < i = omega arith in
+          let differ : get_or numbers k 0 ≢ x = λ same. apart-at numbers k i distinct lower below (same ∙ x_is) in
+          let middle = built.shows.each before was in
+          let now = writing.shows.each middle.0 middle.1 in
+          let last : now.0 ≡ image = same_some new.shown now.0 image now.1 shown in
+          table-stays g kept (set kept x (Some page)) middle.0 image (get_or numbers k 0) x (get_or tables k []) differ
+          (get_or-set_other kept x (get_or numbers k 0) (Some page) None differ)
+          (subst (λ to. SameOutside (InExtent (extent_block g x)) middle.0 to) last (subst (λ n. SameOutside (InExtent n) middle.0 now.0) is now.2))
+          (built.each before middle.0 was middle.1 k lower))
           (cases_eq k i));
       others = λ y none.
           let differ : y ≢ x = λ same. true≢false (sym (ap (λ n. is_in n numbers) (same ∙ x_is) ∙ is_in-at numbers i below) ∙ none) in

@@ -1,8 +1,7 @@
 -- A list that is cut into tables piece by piece.
-use Rattle.std.proofs.Common.{◌≡◌, ℕ, suc, ◌+◌, ◌<◌, ◌≤◌, refl, sym, ap, subst, ◌∙◌, List, [], ◌∷◌, ◌++◌, map, length, take, drop, get_or, arith, drop-cons, add-one}
+use Rattle.std.proofs.Common.{◌≡◌, ℕ, ◌+◌, ◌<◌, ◌≤◌, refl, sym, ap, subst, ◌∙◌, List, [], ◌∷◌, ◌++◌, map, length, take, drop, get_or, arith, drop-cons, add-one}
 use Rattle.std.proofs.lemmas.List.{append-nil, append_assoc, drop-map, length-map, map-append, drop_all}
 use Rattle.lt_terms.specs.Items.{Item}
-use Rattle.lt_tables.specs.declared.Entry.{Entry}
 use Rattle.lt_tables.specs.Placement.{entry_of}
 use Rattle.lt_tables.specs.Cut.{table_count, cut_counts, pieces, cut}
 use Rattle.lt_tables.proofs.CutLaws.{table_count-within, cut_counts-nil, cut_counts-some}

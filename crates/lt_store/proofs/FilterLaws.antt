@@ -1,7 +1,7 @@
 -- Filters of tables that are read one after another.
-use Rattle.std.proofs.Common.{◌≡◌, ◌≢◌, ℕ, zero, suc, ◌+◌, ◌<◌, ◌≤◌, refl, sym, ap, subst, ◌∙◌, List, [], ◌∷◌, ◌++◌, length, get_or, set, replicate, Bool, true, false, Option, Some, None, arith, ⊎_elim}
+use Rattle.std.proofs.Common.{◌≡◌, ◌≢◌, ℕ, zero, suc, ◌+◌, ◌<◌, ◌≤◌, refl, sym, ap, subst, ◌∙◌, List, [], ◌∷◌, length, get_or, set, replicate, true, false, Option, Some, None, arith, ⊎_elim}
 use Rattle.std.specs.Prelude.{nat_lt}
-use Rattle.std.specs.List.{AllByRecursion, flat_map}
+use Rattle.std.specs.List.{AllByRecursion}
 use Rattle.std.proofs.lemmas.Bool.{and_parts, ltb-true, true≢false, cases_eq}
 use Rattle.std.proofs.lemmas.List.{get_or-set_same, get_or-set_other, length-append}
 use Rattle.lt_terms.specs.Bytes.{Image, block_at}
@@ -9,7 +9,7 @@ use Rattle.lt_tables.specs.Filter.{is_in}
 use Rattle.lt_format.specs.declared.geometry.Geometry.{Geometry}
 use Rattle.lt_format.specs.declared.node_id.NodeId.{NodeId}
 use Rattle.lt_format.specs.Layout.{extent_block}
-use Rattle.lt_format.specs.Trie.{Node, Trie, root, node_at, node_extents, empty_node, named, all_below, IsTrie}
+use Rattle.lt_format.specs.Trie.{Node, Trie, root, node_extents, named, all_below, IsTrie}
 use Rattle.lt_format.proofs.Numbers.{length-distinct}
 use Rattle.lt_image.specs.Versions.{extent_in}
 use Rattle.lt_image.proofs.AfterLaws.{node_at-holds}
@@ -68,8 +68,8 @@ AreKept-more g kept tables i x first page image are below x_is small at read =
       each = λ k less. ⊎_elim
           (λ (same : get_or tables k 0 ≡ x). ap (λ n. get_or (set kept x (Some page)) n None) same ∙ get_or-set_same kept x (Some page) None small ∙ ap (λ p. Some p) here ∙ ap (λ n. Some (extent_in g image n 64)) (sym same))
           (λ (other : get_or tables k 0 ≡ x → ⊥).
-              let lower : k < i = ⊎_elim (λ (last : k ≡ i). absurd (other (ap (λ j. get_or tables j 0) last ∙ sym x_is))) (λ (not_last : k ≡ i → ⊥). let l : k < i = omega arith in l) (cases_eq k i) in
-              get_or-set_other kept x (get_or tables k 0) (Some page) None other ∙ are.each k lower)
+          let lower : k < i = ⊎_elim (λ (last : k ≡ i). absurd (other (ap (λ j. get_or tables j 0) last ∙ sym x_is))) (λ (not_last : k ≡ i → ⊥). let l : k < i = omega arith in l) (cases_eq k i) in
+          get_or-set_other kept x (get_or tables k 0) (Some page) None other ∙ are.each k lower)
           (cases_eq (get_or tables k 0) x);
       others = λ y out.
           let other : y ≢ x = λ same. true≢false (sym (ap (λ n. is_in n tables) (same ∙ x_is) ∙ is_in-at tables i below) ∙ out) in

@@ -10,6 +10,7 @@ pub mod GiveLaws
 pub mod GoLaws
 pub mod GroupLaws
 pub mod LookLaws
+pub mod MakingLaws
 pub mod MemoryLaws
 pub mod MomentLaws
 pub mod NumberLaws

@@ -1,5 +1,5 @@
 -- What opening reads of an image, part by part.
-use Rattle.std.proofs.Common.{◌≡◌, ℕ, zero, suc, ◌+◌, ◌-◌, ◌*◌, ◌<◌, ◌≤◌, refl, sym, ap, subst, ◌∙◌, List, [], ◌∷◌, ◌++◌, length, take, Bool, true, false, Option, Some, None, Ok, Err, Result, arith, append-nil}
+use Rattle.std.proofs.Common.{◌≡◌, ℕ, zero, suc, ◌+◌, ◌*◌, ◌<◌, ◌≤◌, refl, sym, ap, subst, ◌∙◌, List, ◌++◌, length, true, Option, Ok, Err, Result, arith, append-nil}
 use Rattle.std.specs.List.{AllByRecursion}
 use Rattle.std.specs.Option.{ForSome}
 use Rattle.std.specs.Prelude.{nat_le, ◌&&◌}
@@ -18,8 +18,8 @@ use Rattle.lt_format.proofs.ReadLaws.{ok_same}
 use Rattle.lt_manifest.specs.Opened.{InSnapshot}
 use Rattle.lt_redo.specs.LogState.{LogState}
 use Rattle.lt_redo.specs.Opening.{HasItems}
-use Rattle.lt_redo.specs.Slots.{HasLog, InLogArea}
-use Rattle.lt_image.specs.Opening.{Opened, open_image, log_items}
+use Rattle.lt_redo.specs.Slots.{InLogArea}
+use Rattle.lt_image.specs.Opening.{open_image}
 use Rattle.lt_image.proofs.OpenLaws.{opens-is}
 use Rattle.lt_store.specs.Building.{KeepsFilter}
 use Rattle.lt_store.specs.Open.{StoreView, AtRest, IsRootOnly, IsOpen, root_pile, blocks_of}

@@ -8,3 +8,4 @@ pub mod Kept
 pub mod Open
 pub mod View
 pub mod Reading
+pub mod Making

@@ -17,6 +17,41 @@ pub enum InitFault {
     NoMemory,
 }
 
+impl From<Failed> for InitFault {
+    ghost use Rattle.std.specs.Prelude.{◌≡◌};
+    ghost use Rattle.lt_store.specs.declared.faults.InitFault.TheVariants.{Device};
+
+    ghost from_gives = { λ _ fault. fault ≡ Device };
+
+    fn from(_: Failed) -> InitFault {
+        InitFault::Device
+    }
+}
+
+impl From<NoMemory> for InitFault {
+    ghost use Rattle.std.specs.Prelude.{◌≡◌};
+    ghost use Rattle.lt_store.specs.declared.faults.InitFault.TheVariants as faults;
+
+    ghost from_gives = { λ _ fault. fault ≡ faults.NoMemory };
+
+    fn from(_: NoMemory) -> InitFault {
+        InitFault::NoMemory
+    }
+}
+
+impl From<CommitFault> for InitFault {
+    ghost use Rattle.lt_store.specs.Making.{IsSameFault};
+
+    ghost from_gives = { IsSameFault };
+
+    fn from(fault: CommitFault) -> InitFault {
+        match fault {
+            CommitFault::Device => InitFault::Device,
+            CommitFault::NoMemory => InitFault::NoMemory,
+        }
+    }
+}
+
 /// Why a store did not do what it was asked.
 #[derive(Clone, Copy, Debug, PartialEq, Eq)]
 pub enum WriteFault {

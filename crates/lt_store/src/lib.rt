@@ -8,9 +8,11 @@ mod cutting;
 mod faults;
 mod flushing;
 mod getting;
+mod making;
 mod opening;
 mod store;
 
 pub use counts::Stat;
 pub use faults::{InitFault, WriteFault};
+pub use making::init;
 pub use store::Store;

@@ -190,11 +190,7 @@ fn root_filters<D: Device>(
 }
 
 /// Reads the filters of the table whose extent begins at this block.
-fn read_page<D: Device>(
-    alloc: Global,
-    device: &mut D,
-    first: u64,
-) -> Result<FilterPage, OpenFault>
+fn read_page<D: Device>(alloc: Global, device: &mut D, first: u64) -> Result<FilterPage, OpenFault>
     requires { first + 65 ≤ D.blocks device.old }
     ensures filters { IfOk result (λ filters. ForSome (D.state device.old).shown (λ image. filters ≡ block_at image (first + 64))) }
     ensures fault { (b : ℕ) → IsErrOf result (OpenFault.Damaged b) → ⊥ }

@@ -1,8 +1,8 @@
-use Rattle.std.proofs.Common.{◌≡◌, ◌<◌, ◌∙◌, refl, sym, length, map, get_or, arith}
+use Rattle.std.proofs.Common.{◌<◌, ◌∙◌, refl, sym, length, map, get_or, arith}
 use Rattle.std.proofs.lemmas.List.{length-map}
 use Rattle.lt_device.proofs.Runs.{confined_begins}
 use Rattle.lt_store.proofs.NumberLaws.{below-at}
-use Rattle.lt_store.proofs.BuildLaws.{AreBuilt, AreBuilt-none, AreBuilt-more, AreBuilt-writing, AreBuilt-all, map-at}
+use Rattle.lt_store.proofs.BuildLaws.{AreBuilt-none, AreBuilt-more, AreBuilt-writing, AreBuilt-all, map-at}
 use Rattle.lt_store.proofs.building.build_tables.Goals as goal
 
 pub loop-turn-init : goal.loop-turn-init

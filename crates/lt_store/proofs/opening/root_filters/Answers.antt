@@ -1,8 +1,8 @@
-use Rattle.std.proofs.Common.{◌≡◌, ◌+◌, ◌<◌, ◌≤◌, ◌∙◌, refl, sym, ap, length, get_or, List, ℕ, arith, vec_len}
+use Rattle.std.proofs.Common.{◌≡◌, ◌<◌, ◌∙◌, refl, ap, length, get_or, List, ℕ, arith}
 use Rattle.lt_device.specs.State.{State}
 use Rattle.lt_format.specs.Trie.{root, node_at}
 use Rattle.lt_store.specs.Open.{root_pile}
-use Rattle.lt_store.proofs.FilterLaws.{AreKept, AreKept-none, AreKept-more, AreKept-all, pile-below}
+use Rattle.lt_store.proofs.FilterLaws.{AreKept-none, AreKept-more, AreKept-all, pile-below}
 use Rattle.lt_store.proofs.opening.root_filters.Goals as goal
 
 pub loop-number-init : goal.loop-number-init

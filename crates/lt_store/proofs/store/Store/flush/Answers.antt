@@ -1,4 +1,4 @@
-use Rattle.std.proofs.Common.{rules, ◌≡◌, ℕ, ◌+◌, ◌<◌, ◌≤◌, ◌^◌, refl, ap, sym, subst, ◌∙◌, [], List, length, true, false, arith, Fits, w32}
+use Rattle.std.proofs.Common.{rules, ◌≡◌, ℕ, ◌+◌, ◌<◌, ◌≤◌, ◌^◌, refl, ap, sym, subst, ◌∙◌, [], List, length, true, false, arith, Fits, w32, vec_len}
 use Rattle.lt_terms.specs.Items.{Item}
 use Rattle.lt_image.proofs.CountLaws.{newest-few}
 use Rattle.lt_tables.proofs.NewestLaws.{newest-newest}
@@ -140,8 +140,10 @@ invariant_of-self-in-Err-NoMemory g c =
     let kept = me.kept c.requires.up in
     let r = subst (λ xs. Reserves c.len-2.result me.extents c.take.new.self xs c.take.new.into.items) c.in_ok-numbers.ensures.items c.in_default.ensures.ok in
     let new = c.flush_into.new.self in
-    let new_len : length new.filters.items ≡ Rattle.rt.vec.Vec.vec_len new.filters = new.filters.ok.0 in
-    let old_len : length me.filters.items ≡ Rattle.rt.vec.Vec.vec_len me.filters = me.filters.ok.0 in
+    let new_ok = new.filters.ok.0 in
+    let old_ok = me.filters.ok.0 in
+    let new_len : length new.filters.items ≡ vec_len new.filters = omega (arith, new_ok) in
+    let old_len : length me.filters.items ≡ vec_len me.filters = omega (arith, old_ok) in
     let before = kept-along me.manifest me.log me.log me.memory me.memory me.extents me.extents _ (length me.filters.items) me.writes me.writes refl refl refl old_len refl kept in
     let k' = c.in-Err-NoMemory.ensures.kept (search rules) me.extents before in
     let numbers : c.deref-in-Err-NoMemory.result.now ≡ c.take.new.into.items = c.deref-in-Err-NoMemory.ensures.value in

@@ -1,10 +1,10 @@
-use Rattle.std.proofs.Common.{◌≡◌, ◌+◌, ◌*◌, ◌≤◌, ◌∙◌, refl, sym, ap, subst, arith}
+use Rattle.std.proofs.Common.{◌+◌, ◌*◌, ◌∙◌, sym, ap, subst, arith}
 use Rattle.std.proofs.lemmas.Result.{err_from_is_err_and}
 use Rattle.lt_device.specs.State as told
 use Rattle.lt_redo.proofs.OpeningLaws.{handed_on}
-use Rattle.lt_store.specs.Open.{IsOpen, root_pile}
+use Rattle.lt_store.specs.Open.{IsOpen}
 use Rattle.lt_store.specs.View.{view_of}
-use Rattle.lt_store.proofs.OpenLaws.{no_manifest, log-damaged, rest-whole, rest-open, low-below, assembled-reads, counts-more, few-slots, few-reads, assembled-room}
+use Rattle.lt_store.proofs.OpenLaws.{no_manifest, log-damaged, rest-whole, rest-open, low-below, assembled-reads, counts-more, few-reads, assembled-room}
 use Rattle.lt_store.proofs.store.Store.open.Goals as goal
 
 pub returns-in_err-geometry-clause-damaged : goal.returns-in_err-geometry-clause-damaged
