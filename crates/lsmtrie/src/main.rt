@@ -1,16 +1,14 @@
 //! The program `lsmtrie`: the top call over standard input and output, and a device in memory.
 #![tactic(auto)]
 
-mod streams;
-
 use lt_cli::{Status, lsm_trie};
 use lt_device::Steady;
+use lt_file::{StdSink, StdSource};
 use std::alloc::Global;
 use std::io::ErrorKind;
 use std::process::ExitCode;
 use std::rt::Env;
 use std::{env, io};
-use streams::{StdSink, StdSource};
 
 /// How many blocks the device has.
 const BLOCKS: u64 = 1024;

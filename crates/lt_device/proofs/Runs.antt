@@ -1,12 +1,26 @@
 -- How what is known of the images since a start goes on from call to call.
-use Rattle.std.proofs.Common.{◌≡◌, ◌⊎◌, inl, inr, ⊎_elim, ℕ, List, Some, sym, subst, arith}
+use Rattle.std.proofs.Common.{◌≡◌, ◌⊎◌, inl, inr, ⊎_elim, ℕ, List, Some, sym, ap, ◌∙◌, set, subst, arith}
+use Rattle.std.specs.Option.{option_map}
 use Rattle.lt_terms.specs.Bytes.{Image}
 use Rattle.lt_device.specs.Image.{SameOutside}
 use Rattle.lt_device.specs.State.{Epoch, State, synced, Wrote, EndedSync, IsFit}
-use Rattle.lt_device.specs.Moments.{MayLeave, clock, LeftSince, Leaves, IsNear, ConfinedTo}
+use Rattle.lt_device.specs.Moments.{MayLeave, ShownNow, clock, LeftSince, Leaves, IsNear, ConfinedTo}
 use Rattle.lt_device.proofs.Images.{same_outside_refl, same_outside_joins, same_outside_widens}
-use Rattle.lt_device.proofs.Steps.{write_near, write_clock, write_since, write_since_keeps, since_now, now_since, sync_was, sync_clock, sync_since, sync_since_keeps}
+use Rattle.lt_device.proofs.Steps.{write_near, write_any, sync_shown, write_clock, write_since, write_since_keeps, since_now, now_since, sync_was, sync_clock, sync_since, sync_since_keeps}
 use Rattle.lt_device.proofs.Fits.{some_now}
+
+-- ---- what is shown is still told
+
+write_shows : (n b : ℕ) (old new : State) → Wrote n b old new → ShownNow old → ShownNow new
+write_shows n b old new wrote now =
+    record {
+      image = set now.image b wrote.page;
+      shown = ap (λ (s : State). s.shown) wrote.is ∙ ap (option_map (λ (image : Image). set image b wrote.page)) now.shown;
+      tells = write_any n b old new wrote now.image wrote.page wrote.whole now.tells;
+    }
+
+sync_shows : (n : ℕ) (s : State) → IsFit n s → ShownNow s → ShownNow (synced s)
+sync_shows n s fit now = record { image = now.image; shown = now.shown; tells = sync_shown n s fit now.image now.tells.unsynced now.shown now.tells.unsynced_is }
 
 -- ---- each image since a start has P
 
@@ -18,6 +32,7 @@ begins s has = record {
   each = λ left since. has left (since_now s left since);
   before = λ t left le since. inl since;
   keeps = λ t left le since. since;
+  shows = λ image shown may. record { image = image; shown = shown; tells = may };
 }
 
 -- one write more, of which each image has P
@@ -29,6 +44,7 @@ goes_on {P} {old} {mid} {new} {n} {b} wrote so_far has = record {
   each = λ left since. ⊎_elim (so_far.each left) (now left) (write_since n b mid new wrote (clock old) left since);
   before = λ t left le since. ⊎_elim (so_far.before t left le) (λ may. inr (now left may)) (write_since n b mid new wrote t left since);
   keeps = λ t left le since. write_since_keeps n b mid new wrote t left (so_far.keeps t left le since);
+  shows = λ image shown may. write_shows n b mid new wrote (so_far.shows image shown may);
 }
   where
     now : (left : Image) → MayLeave new left → P left
@@ -46,6 +62,7 @@ after_sync {P} {old} {mid} n so_far fit = record {
   each = λ left since. so_far.each left (sync_since n mid fit (clock old) left so_far.later since);
   before = λ t left le since. so_far.before t left le (sync_since n mid fit t left (omega (arith, le, so_far.later)) since);
   keeps = λ t left le since. sync_since_keeps n mid fit t left (omega (arith, le, so_far.later)) (so_far.keeps t left le since);
+  shows = λ image shown may. sync_shows n mid fit (so_far.shows image shown may);
 }
 
 -- one sync more, whatever it answered: it leaves nothing new
@@ -63,6 +80,7 @@ both p q = record {
   each = λ left since. (p.each left since, q.each left since);
   before = λ t left le since. ⊎_elim inl (λ has. ⊎_elim inl (λ more. inr (has, more)) (q.before t left le since)) (p.before t left le since);
   keeps = p.keeps;
+  shows = p.shows;
 }
 
 -- a call that leaves what is told as it is
@@ -77,6 +95,7 @@ joins {P} {Q} {old} {mid} {new} then first has = record {
   each = λ left since. ⊎_elim (first.each left) (has left) (then.before (clock old) left first.later since);
   before = λ t left le since. ⊎_elim (first.before t left le) (λ q. inr (has left q)) (then.before t left (omega (arith, le, first.later)) since);
   keeps = λ t left le since. then.keeps t left (omega (arith, le, first.later)) (first.keeps t left le since);
+  shows = λ image shown may. let mid = first.shows image shown may in then.shows mid.image mid.shown mid.tells;
 }
 
 pub weakens : {P Q : Image → Type 0} {old new : State} → Leaves P old new → ((left : Image) → P left → Q left) → Leaves Q old new
@@ -86,6 +105,7 @@ weakens run has = record {
   each = λ left since. has left (run.each left since);
   before = λ t left le since. ⊎_elim (λ was. inl was) (λ p. inr (has left p)) (run.before t left le since);
   keeps = run.keeps;
+  shows = run.shows;
 }
 
 -- where all images are told and each of now has Q, one of those since a time has it

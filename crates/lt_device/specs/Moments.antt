@@ -32,6 +32,12 @@ pub record LeftSince (s : State) (t : ℕ) (left : Image) : Type 0 where
   pub past_is : s.past ≡ Some epochs
   pub some_time : MayLeave s left ⊎ InOneOf (drop t epochs) left
 
+-- what the device reads as is told, and is an image that a crash may leave now
+pub record ShownNow (s : State) : Type 0 where
+  pub image : Image
+  pub shown : s.shown ≡ Some image
+  pub tells : MayLeave s image
+
 -- each image that a crash since old might have left has P
 pub record Leaves (P : Image → Type 0) (old new : State) : Type 0 where
   pub later : clock old ≤ clock new
@@ -43,6 +49,8 @@ pub record Leaves (P : Image → Type 0) (old new : State) : Type 0 where
   pub before : (t : ℕ) (left : Image) → t ≤ clock old → LeftSince new t left → LeftSince old t left ⊎ P left
   -- and none of them is lost
   pub keeps : (t : ℕ) (left : Image) → t ≤ clock old → LeftSince old t left → LeftSince new t left
+  -- a device that tells what it reads as, and the images that a crash may leave, still tells both
+  pub shows : (image : Image) → old.shown ≡ Some image → MayLeave old image → ShownNow new
 
 -- an image that agrees, outside these blocks, with one that a crash may leave at this state
 pub record IsNear (inside : ℕ → Type 0) (s : State) (left : Image) : Type 0 where

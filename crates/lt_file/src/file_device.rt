@@ -1,6 +1,8 @@
 //! A file as a device.
 
-ghost use Rattle.std.specs.Prelude.{◌≡◌, ◌<◌, ◌^◌};
+ghost use Rattle.std.specs.Prelude.{◌≡◌, ◌<◌, ◌^◌, OnOk, OnErr, IsOk, ◌↔◌};
+ghost use Rattle.lt_terms.specs.Causes.{next_count};
+ghost use Rattle.lt_device.specs.State.{tells_nothing, Wrote};
 
 use super::counts::risen;
 use lt_device::Device;
@@ -45,8 +47,9 @@ impl FileDevice {
 
     /// What a call of the system answered; its error is counted.
     fn counted(&mut self, answer: io::Result<()>) -> Result<(), Failed>
-        ensures reads { self.new.reads ≡ self.old.reads }
-        ensures cause { HasCause self.old.faults self.new.faults result }
+        ensures answer { IsOk result ↔ IsOk answer }
+        ensures ok { OnOk result (self.new ≡ self.old) }
+        ensures err { OnErr result (self.new ≡ record self.old { faults = next_count self.old.faults }) }
     {
         if answer.is_err() {
             self.faults = risen(self.faults);
@@ -57,8 +60,6 @@ impl FileDevice {
 }
 
 impl Device for FileDevice {
-    ghost use Rattle.lt_device.specs.State.{tells_nothing};
-
     ghost blocks = { λ _. 2 ^ 24 };
 
     ghost reads = { λ device. device.reads };
@@ -75,18 +76,32 @@ impl Device for FileDevice {
         self.reads
     }
 
-    fn read(&mut self, block: u64, into: &mut Page) -> Result<(), Failed> {
+    fn read(&mut self, block: u64, into: &mut Page) -> Result<(), Failed>
+        requires { block < 2 ^ 24 }
+        ensures counted { self.new.reads ≡ next_count self.old.reads }
+        ensures ok { OnOk result (self.new.faults ≡ self.old.faults) }
+        ensures err { OnErr result (self.new.faults ≡ next_count self.old.faults) }
+    {
         self.reads = risen(self.reads);
         let answer = read_block(&self.file, block, into);
         self.counted(answer)
     }
 
-    fn write(&mut self, block: u64, from: &Page) -> Result<(), Failed> {
+    #[tactic(auto, using(lt_device::proofs::Silent::wrote_nothing))]
+    fn write(&mut self, block: u64, from: &Page) -> Result<(), Failed>
+        requires { block < 2 ^ 24 }
+        ensures wrote { Wrote (2 ^ 24) block tells_nothing tells_nothing }
+        ensures ok { OnOk result (self.new ≡ self.old) }
+        ensures err { OnErr result (self.new ≡ record self.old { faults = next_count self.old.faults }) }
+    {
         let answer = self.file.write_all_at(from.bytes(), block * 4096);
         self.counted(answer)
     }
 
-    fn sync(&mut self) -> Result<(), Failed> {
+    fn sync(&mut self) -> Result<(), Failed>
+        ensures ok { OnOk result (self.new ≡ self.old) }
+        ensures err { OnErr result (self.new ≡ record self.old { faults = next_count self.old.faults }) }
+    {
         let answer = self.file.sync_data();
         self.counted(answer)
     }

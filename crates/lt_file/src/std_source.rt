@@ -1,6 +1,8 @@
 //! A reader as a source.
 
-ghost use Rattle.std.specs.Prelude.{◌≡◌, None};
+ghost use Rattle.std.specs.Prelude.{◌≡◌, ◌≤◌, None, IfOk, OnErr};
+ghost use Rattle.lt_io.specs.Source.{pieces_after};
+ghost use Rattle.lt_terms.specs.Causes.{next_count};
 
 use super::counts::risen;
 use lt_io::Source;
@@ -44,7 +46,11 @@ impl<R: Read + Drop> Source for StdSource<R> {
 
     ghost faults = { λ source. source.faults };
 
-    fn read(&mut self, into: &mut Page) -> Result<usize, Failed> {
+    fn read(&mut self, into: &mut Page) -> Result<usize, Failed>
+        ensures fits { IfOk result (λ count. count ≤ 4096) }
+        ensures ok { IfOk result (λ count. self.new ≡ record self.old { pieces = pieces_after count self.old.pieces }) }
+        ensures err { OnErr result (self.new ≡ record self.old { faults = next_count self.old.faults }) }
+    {
         let mut bytes = [0; Page::LEN];
         match self.input.read(&mut bytes) {
             Ok(count) => {

@@ -2,11 +2,10 @@ use super::*;
 use lt_device::Device;
 use lt_io::{Sink, Source};
 use lt_page::{Failed, Page};
-use std::fs;
 use std::fs::{File, OpenOptions};
-use std::io;
 use std::rt::Files;
 use std::test::Fail;
+use std::{fs, io};
 
 /// A new file, open for reading and writing.
 fn make_file<R: Files>(rt: &R, path: &str) -> io::Result<R::File> {
@@ -42,7 +41,10 @@ fn a_file_keeps_blocks_and_has_zeros_past_its_end(rt: HostRuntime) -> Result<(),
     device.sync()?;
     for (block, byte) in [(0, 0), (1, 7), (2, 0), (3, 0), (9, 0), ((1 << 24) - 1, 0)] {
         page.fill_from(0, &[1; Page::LEN]);
-        assert!(rt; is_filled(&mut device, &mut page, block, byte)?, "block {block}");
+        assert!(rt;
+            is_filled(&mut device, &mut page, block, byte)?,
+            "block {block}"
+        );
     }
     assert_eq!(rt; device.reads(), 6);
     fs::remove_file(&rt, "lt_file_device")?;

@@ -11,7 +11,7 @@ use Rattle.lt_format.specs.declared.node_id.NodeId.{NodeId}
 use Rattle.lt_format.specs.Layout.{area_block, snapshot_blocks, selected, selector_block, geometry_of, blocks_needed}
 use Rattle.lt_format.specs.Trie.{Node, Trie, groups_for}
 use Rattle.lt_format.specs.Snapshot.{Manifest, Front, ◌>>=◌, number_in, field, extents_at, node_read, nodes_read, front_read, snapshot_read, snapshot_in, area_byte, as_block, extents_stand, is_zero, always, follows, id_of, extents_of, total_offset}
-use Rattle.lt_format.specs.Naming.{Named, geometry_in, manifest_in, manifest_of, roomy, HasManifest}
+use Rattle.lt_format.specs.Naming.{Named, geometry_in, manifest_in, manifest_of, roomy}
 
 map-range : {A : Type 0} (f g : ℕ → A) (a n : ℕ) → ((c : ℕ) → a ≤ c → c < a + n → f c ≡ g c) → map f (range_with_len a n) ≡ map g (range_with_len a n)
 map-range f g a zero same = refl
@@ -185,15 +185,12 @@ selected-small : (block : List ℕ) → selected block < 2
 selected-small block = omega arith
 
 -- A MANIFEST is told by the superblock, the selector and the manifest areas
-pub manifest-local : (g : Geometry) (m : Manifest) (image left : Image) → length left ≡ length image → ((n : ℕ) → n < 868 → block_at left n ≡ block_at image n) → HasManifest g m image → HasManifest g m left
+pub manifest-local : (image left : Image) → length left ≡ length image → ((n : ℕ) → n < 868 → block_at left n ≡ block_at image n) → manifest_of left ≡ manifest_of image
 unfolding manifest_of manifest_in geometry_in
-manifest-local g m image left size same has =
+manifest-local image left size same =
     let first = same 0 (omega arith) in
     let selector = same 1 (omega arith) in
     let a : ℕ = selected (block_at image selector_block) in
     let small : a < 2 = selected-small (block_at image selector_block) in
     let snapshot = λ (g : Geometry). ap (λ block. snapshot_in g left (selected block)) selector ∙ snapshot-local g image left a size (λ n low. same (area_block a + n) (omega arith)) in
-    record {
-      area = has.area;
-      read = (λ i. roomy (size i) (geometry_of (first i)) >>= (λ g. snapshot g i >>= (λ manifest. Ok (record { geometry = g; area = selected (selector i); manifest = manifest })))) ∙ has.read;
-    }
+    λ i. roomy (size i) (geometry_of (first i)) >>= (λ g. snapshot g i >>= (λ manifest. Ok (record { geometry = g; area = selected (selector i); manifest = manifest })))

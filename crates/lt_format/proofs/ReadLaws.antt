@@ -122,8 +122,8 @@ node_ok bytes limit levels extents last_id before at r once h =
     let is : ((id, node), groups.0.1) ≡ r = ok_same ((id, node), groups.0.1) r groups.2 in
     subst (λ (q : (NodeId × Node) × ℕ). IsNext levels extents last_id before q.0) is (record {
       fine = and_from (is_node levels id && nat_le 1 (length tables.0.0)) (is_shaped levels extents id node)
-        (and_from (is_node levels id) (nat_le 1 (length tables.0.0)) (and_from (nat_lt l levels) (nat_lt number.0.0 (8 ^ l)) in_level named_next.0) (subst (λ n. nat_le 1 n ≡ true) (sym new_tables.count) some.0))
-        (shaped (l + 1 == levels) extents base.0.0 (length tables.0.0) (length groups.0.0) small_base
+          (and_from (is_node levels id) (nat_le 1 (length tables.0.0)) (and_from (nat_lt l levels) (nat_lt number.0.0 (8 ^ l)) in_level named_next.0) (subst (λ n. nat_le 1 n ≡ true) (sym new_tables.count) some.0))
+          (shaped (l + 1 == levels) extents base.0.0 (length tables.0.0) (length groups.0.0) small_base
           (subst (λ n. (n == cond (l + 1 == levels) (groups_for (length tables.0.0)) 0) ≡ true) (sym new_groups.count) (subst (λ n. (groups_len.0.0 == cond (l + 1 == levels) (groups_for n) 0) ≡ true) (sym new_tables.count) as_many)));
       comes = named_next.1;
       fresh = joined_fresh extents tables.0.0 groups.0.0 before new_tables.fresh new_groups.fresh;
@@ -234,6 +234,7 @@ roomy_ok blocks (Some q) g h = by_room (nat_le (blocks_needed q 0) blocks) h
 pub record IsNamed (image : Image) (n : Named) : Type 0 where
   pub geometry : is_geometry n.geometry ≡ true
   pub read : IsRead n.geometry (length image) n.manifest
+  pub area : n.area ≡ selected (block_at image selector_block)
 
 -- A MANIFEST that an image names
 pub manifest_of-named : (image : Image) (n : Named) → manifest_of image ≡ Ok n → IsNamed image n
@@ -246,4 +247,5 @@ manifest_of-named image n h =
     subst (IsNamed image) (ok_same named_so n m.2) (record {
       geometry = geometry_ok (block_at image 0) g.0 (roomy_ok (length image) (geometry_of (block_at image 0)) g.0 g.1);
       read = snapshot_ok g.0 (length image) (area_byte image area) m.0 (as_block_ok area (snapshot_read g.0 (length image) (area_byte image area)) m.0 m.1);
+      area = refl;
     })

@@ -35,11 +35,6 @@ manifest_of image = do
   g ← geometry_in image
   manifest_in g image
 
--- the image has this geometry, and its current manifest is this one
-pub record HasManifest (g : Geometry) (m : Manifest) (image : Image) : Type 0 where
-  pub area : ℕ
-  pub read : manifest_of image ≡ Ok (record { geometry = g; area = area; manifest = m })
-
 -- the block is the selector or one of the two manifest areas
 abbrev pub InManifest : ℕ → Type 0
 InManifest n = (1 ≤ n) × (n < 868)

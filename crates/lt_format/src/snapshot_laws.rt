@@ -4,7 +4,7 @@ ghost use Rattle.std.specs.Prelude.{◌≡◌, ℕ, ◌+◌, ◌<◌, ◌≤◌,
 ghost use Rattle.lt_terms.specs.Bytes.{Image, block_at};
 ghost use Rattle.lt_format.specs.declared.geometry.Geometry.{Geometry};
 ghost use Rattle.lt_format.specs.Layout.{is_geometry, area_block, snapshot_blocks};
-ghost use Rattle.lt_format.specs.Naming.{HasManifest};
+ghost use Rattle.lt_format.specs.Naming.{manifest_of};
 ghost use Rattle.lt_format.specs.Snapshot.{Manifest, IsManifest, snapshot_bytes, snapshot_page, pages_of, snapshot_read, snapshot_in};
 
 /// A manifest is read again from the bytes of its snapshot, whatever follows them, and from their
@@ -19,5 +19,5 @@ pub fn snapshots_are_read_again()
 /// selector.
 pub fn manifests_are_local()
     ensures snapshot { (g : Geometry) (image left : Image) (a : ℕ) → length left ≡ length image → ((n : ℕ) → n < snapshot_blocks → block_at left (area_block a + n) ≡ block_at image (area_block a + n)) → snapshot_in g left a ≡ snapshot_in g image a }
-    ensures manifest { (g : Geometry) (m : Manifest) (image left : Image) → length left ≡ length image → ((n : ℕ) → n < 868 → block_at left n ≡ block_at image n) → HasManifest g m image → HasManifest g m left }
+    ensures manifest { (image left : Image) → length left ≡ length image → ((n : ℕ) → n < 868 → block_at left n ≡ block_at image n) → manifest_of left ≡ manifest_of image }
 {}

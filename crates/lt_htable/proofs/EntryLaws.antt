@@ -7,7 +7,6 @@ use Rattle.std.specs.Ordering.{nat_cmp, ordering_then, is_lt}
 use Rattle.std.specs.FinMap.Entries.{below_all}
 use Rattle.std.specs.List.{AllByRecursion, filter, list_all, range_with_len}
 use Rattle.std.proofs.lemmas.Bool.{and_parts, cases_eq}
-use Rattle.std.proofs.lemmas.List.Sums.{sum_by-cons}
 use Rattle.std.proofs.lemmas.List.Elements.{All-from_recursion}
 use Rattle.std.proofs.lemmas.List.Sorted.{IsNonDecreasingBy-from_all_adjacent}
 use Rattle.std.proofs.lemmas.List.{length-map}
@@ -132,11 +131,11 @@ has_plans items h = by_option (placement_of items) refl h
 -- valid items in rank order that are few
 pub few-are_entries : (items : List Item) → newest items ≡ items → list_all is_valid items ≡ true → length items < 4294967296 → AreEntries (map entry_of items)
 few-are_entries items ranked valid short = record {
-    columns = All-from_recursion (λ (e : Entry). e.column < 64) (map entry_of items) (each_entry (λ (e : Entry). e.column < 64) items (λ v ok. home_column-small v.key) valid);
-    costs = All-from_recursion (λ (e : Entry). e.cost ≤ capacity) (map entry_of items) (each_entry (λ (e : Entry). e.cost ≤ capacity) items (λ v ok. cost-small v ok) valid);
-    order = IsNonDecreasingBy-from_all_adjacent (λ (e : Entry). e.suffix) (map entry_of items) (ranked-order items (subst (λ xs. T (is_ranked xs)) ranked (newest-ranked items)));
-    few = let long = length-map items entry_of in omega arith;
-  }
+  columns = All-from_recursion (λ (e : Entry). e.column < 64) (map entry_of items) (each_entry (λ (e : Entry). e.column < 64) items (λ v ok. home_column-small v.key) valid);
+  costs = All-from_recursion (λ (e : Entry). e.cost ≤ capacity) (map entry_of items) (each_entry (λ (e : Entry). e.cost ≤ capacity) items (λ v ok. cost-small v ok) valid);
+  order = IsNonDecreasingBy-from_all_adjacent (λ (e : Entry). e.suffix) (map entry_of items) (ranked-order items (subst (λ xs. T (is_ranked xs)) ranked (newest-ranked items)));
+  few = let long = length-map items entry_of in omega arith;
+}
 
 -- or that have a placement
 pub items-are_entries : (items : List Item) → newest items ≡ items → list_all is_valid items ≡ true → has_placement (map entry_of items) ≡ true → AreEntries (map entry_of items)

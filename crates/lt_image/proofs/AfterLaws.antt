@@ -1,66 +1,44 @@
 -- Soundness is kept by a flush.
-use Rattle.std.proofs.Common.{◌≡◌, ℕ, zero, suc, ◌+◌, ◌-◌, ◌*◌, ◌<◌, ◌≤◌, refl, sym, ap, subst, ◌∙◌, List, [], ◌∷◌, ◌++◌, map, length, take, drop, Bool, true, false, not, cond, Option, Some, None, arith, append-nil, le-ltb}
-use Rattle.std.specs.Prelude.{IsTrue, ◌==◌, T, slice_range, nat_lt}
+use Rattle.std.proofs.Common.{◌≡◌, ℕ, ◌+◌, ◌-◌, ◌*◌, ◌≤◌, refl, sym, ap, subst, ◌∙◌, List, [], ◌∷◌, ◌++◌, map, length, drop, Bool, true, false, not, cond, Some, arith, append-nil, le-ltb}
+use Rattle.std.specs.Prelude.{slice_range, nat_lt}
 use Rattle.std.specs.FinMap.{find}
-use Rattle.std.specs.List.{flat_map, filter, range_with_len, AllByRecursion, enumerate_from, fold}
+use Rattle.std.specs.List.{flat_map, filter, range_with_len, AllByRecursion, enumerate_from}
 use Rattle.std.specs.Option.{unwrap_or}
 use Rattle.std.proofs.lemmas.List.Concat.{flat_map-append}
-use Rattle.std.proofs.lemmas.List.{drop-append-le, take-append-le, length-drop}
 use Rattle.lt_terms.specs.Bytes.{Image, same_bytes}
 use Rattle.lt_terms.specs.Items.{Item}
 use Rattle.lt_tables.specs.Placement.{columns}
 use Rattle.lt_tables.specs.Table.{IsPlaced}
 use Rattle.lt_tables.specs.Merge.{newest}
 use Rattle.lt_tables.specs.Group.{group_block}
-use Rattle.lt_tables.proofs.TableLaws.{PlansFit}
+use Rattle.lt_tables.proofs.FitLaws.{all_weaker}
 use Rattle.lt_format.specs.declared.node_id.NodeId.{NodeId}
 use Rattle.lt_format.specs.declared.geometry.Geometry.{Geometry}
 use Rattle.lt_format.specs.Layout.{extent_block, area_block}
-use Rattle.lt_format.specs.Trie.{Node, Trie, root, node_cmp, same_node, node_at, with_node, named, node_extents, empty_node}
-use Rattle.lt_format.specs.Changes.{Change, flush, deal, rewrite, ChildChange, appended, child_after, after_child, without_oldest, after_change}
+use Rattle.lt_format.specs.Trie.{Node, Trie, root, node_cmp, same_node, node_at, named, node_extents, empty_node}
+use Rattle.lt_format.specs.Changes.{flush, appended, after_change}
 use Rattle.lt_format.proofs.TrieLaws.{same_node-same}
 use Rattle.lt_image.proofs.ChangeLaws.{with_node-all}
 use Rattle.lt_image.specs.Opening.{Opened}
 use Rattle.lt_image.specs.Versions.{extent_in, items_at, stored_items}
 use Rattle.lt_image.specs.Soundness.{block_if, bad_in_table, bad_table_blocks, bad_group_blocks, bad_node_blocks, bad_blocks, filter_blocks}
 use Rattle.lt_image.specs.After.{SameExtent, SameExtents}
-use Rattle.lt_image.proofs.SoundLaws.{flat_map_nil, nil_flat_map, nil_append, all_map}
+use Rattle.lt_image.proofs.ListLaws.{all_left, all_right, all_take, all_drop}
+use Rattle.lt_image.proofs.SoundLaws.{flat_map_nil, nil_flat_map, nil_append}
 use Rattle.lt_image.proofs.MapLaws.{same_items}
-use Rattle.lt_image.proofs.TableSoundLaws.{filter-range, none-range, same_bad_in_table, same_bytes-is, Holdable, placed-sound}
+use Rattle.lt_image.proofs.TableSoundLaws.{filter-range, same_bad_in_table, Holdable, placed-sound}
 
 -- the nodes of a trie have no bad block
 abbrev pub SoundNodes : Geometry → Image → Trie → Type 0
 SoundNodes g image trie = AllByRecursion (λ e. bad_node_blocks g image e ≡ []) trie
-
-all_left : {A : Type 0} (P : A → Type 0) (xs ys : List A) → AllByRecursion P (xs ++ ys) → AllByRecursion P xs
-all_left P [] ys all = tt
-all_left P (x ∷ xs) ys all = (all.0, all_left P xs ys all.1)
-
-all_right : {A : Type 0} (P : A → Type 0) (xs ys : List A) → AllByRecursion P (xs ++ ys) → AllByRecursion P ys
-all_right P [] ys all = all
-all_right P (x ∷ xs) ys all = all_right P xs ys all.1
-
-all_append : {A : Type 0} (P : A → Type 0) (xs ys : List A) → AllByRecursion P xs → AllByRecursion P ys → AllByRecursion P (xs ++ ys)
-all_append P [] ys a b = b
-all_append P (x ∷ xs) ys a b = (a.0, all_append P xs ys a.1 b)
-
-all_take : (P : ℕ → Type 0) (n : ℕ) (xs : List ℕ) → AllByRecursion P xs → AllByRecursion P (take n xs)
-all_take P zero xs all = tt
-all_take P (suc n) [] all = tt
-all_take P (suc n) (x ∷ xs) all = (all.0, all_take P n xs all.1)
-
-all_drop : (P : ℕ → Type 0) (n : ℕ) (xs : List ℕ) → AllByRecursion P xs → AllByRecursion P (drop n xs)
-all_drop P zero xs all = all
-all_drop P (suc n) [] all = tt
-all_drop P (suc n) (x ∷ xs) all = all_drop P n xs all.1
 
 -- ---- blocks as before
 
 same_table_blocks : (g : Geometry) (old new : Image) (id : NodeId) (x : ℕ) → SameExtent g old new x → bad_table_blocks g new id x ≡ bad_table_blocks g old id x
 same_table_blocks g old new id x same =
     ap (map (λ c. extent_block g x + c)) (
-      ap (λ items. bad_in_table id (extent_in g new x) (newest items)) (same_items (extent_in g old x) (extent_in g new x) same)
-      ∙ same_bad_in_table id (extent_in g old x) (extent_in g new x) (newest (items_at g old x)) same)
+    ap (λ items. bad_in_table id (extent_in g new x) (newest items)) (same_items (extent_in g old x) (extent_in g new x) same)
+    ∙ same_bad_in_table id (extent_in g old x) (extent_in g new x) (newest (items_at g old x)) same)
 
 same_tables_blocks : (g : Geometry) (old new : Image) (id : NodeId) (xs : List ℕ) → SameExtents g old new xs → flat_map (bad_table_blocks g new id) xs ≡ flat_map (bad_table_blocks g old id) xs
 same_tables_blocks g old new id [] same = refl
@@ -74,11 +52,11 @@ same_group_blocks : (g : Geometry) (old new : Image) (tables : List ℕ) (j x : 
 unfolding columns
 same_group_blocks g old new tables j x same_tables same =
     let filters : filter_blocks g new (slice_range tables (64 * j) (64 * j + 64)) ≡ filter_blocks g old (slice_range tables (64 * j) (64 * j + 64)) =
-      same_filters g old new (slice_range tables (64 * j) (64 * j + 64)) (all_take (SameExtent g old new) (64 * j + 64 - 64 * j) (drop (64 * j) tables) (all_drop (SameExtent g old new) (64 * j) tables same_tables)) in
+    same_filters g old new (slice_range tables (64 * j) (64 * j + 64)) (all_take (SameExtent g old new) (64 * j + 64 - 64 * j) (drop (64 * j) tables) (all_drop (SameExtent g old new) (64 * j) tables same_tables)) in
     ap (map (λ c. extent_block g x + c)) (
-      ap (λ fs. filter (λ c. not (same_bytes (extent_in g new x c) (group_block fs c))) (range_with_len 0 64)) filters
-      ∙ filter-range (λ c. not (same_bytes (extent_in g new x c) (group_block (filter_blocks g old (slice_range tables (64 * j) (64 * j + 64))) c))) (λ c. not (same_bytes (extent_in g old x c) (group_block (filter_blocks g old (slice_range tables (64 * j) (64 * j + 64))) c))) 0 64
-        (λ c small. ap (λ b. not (same_bytes b (group_block (filter_blocks g old (slice_range tables (64 * j) (64 * j + 64))) c))) (same c (omega arith))))
+    ap (λ fs. filter (λ c. not (same_bytes (extent_in g new x c) (group_block fs c))) (range_with_len 0 64)) filters
+    ∙ filter-range (λ c. not (same_bytes (extent_in g new x c) (group_block (filter_blocks g old (slice_range tables (64 * j) (64 * j + 64))) c))) (λ c. not (same_bytes (extent_in g old x c) (group_block (filter_blocks g old (slice_range tables (64 * j) (64 * j + 64))) c))) 0 64
+    (λ c small. ap (λ b. not (same_bytes b (group_block (filter_blocks g old (slice_range tables (64 * j) (64 * j + 64))) c))) (same c (omega arith))))
 
 same_groups_blocks : (g : Geometry) (old new : Image) (tables : List ℕ) (k : ℕ) (groups : List ℕ) → SameExtents g old new tables → SameExtents g old new groups
     → flat_map (bad_group_blocks g new tables) (enumerate_from k groups) ≡ flat_map (bad_group_blocks g old tables) (enumerate_from k groups)
@@ -122,7 +100,7 @@ unfolding node_at
 node_at-holds P id trie none all = node_holds P id trie none all
 
 sound_tables : (g : Geometry) (image : Image) (id : NodeId) (xs : List ℕ) → AllByRecursion (λ x. NewTable id (extent_in g image x)) xs → flat_map (bad_table_blocks g image id) xs ≡ []
-sound_tables g image id xs all = flat_map_nil (bad_table_blocks g image id) xs (all_map (λ x. NewTable id (extent_in g image x)) (λ x. bad_table_blocks g image id x ≡ []) (λ x t. new_table-sound g image id x t) xs all)
+sound_tables g image id xs all = flat_map_nil (bad_table_blocks g image id) xs (all_weaker (λ x. NewTable id (extent_in g image x)) (λ x. bad_table_blocks g image id x ≡ []) (λ x t. new_table-sound g image id x t) xs all)
 
 no_groups : (g : Geometry) (image : Image) (tables groups : List ℕ) → groups ≡ [] → flat_map (bad_group_blocks g image tables) (enumerate_from 0 groups) ≡ []
 no_groups g image tables groups e = ap (λ gs. flat_map (bad_group_blocks g image tables) (enumerate_from 0 gs)) e
@@ -141,10 +119,10 @@ flush-nodes g old new trie tables same sound bare fresh =
     let at_root : bad_node_blocks g new (root, node_at trie root) ≡ [] = node_at-holds (λ e. bad_node_blocks g new e ≡ []) root trie refl kept in
     with_node-all (λ e. bad_node_blocks g new e ≡ []) trie root (appended (node_at trie root) tables)
     (ap (λ xs. flat_map (bad_table_blocks g new root) ((node_at trie root).tables ++ tables) ++ xs) (no_groups g new ((node_at trie root).tables ++ tables) (node_at trie root).groups bare)
-      ∙ append-nil (flat_map (bad_table_blocks g new root) ((node_at trie root).tables ++ tables))
-      ∙ flat_map-append (bad_table_blocks g new root) (node_at trie root).tables tables
-      ∙ ap (λ xs. xs ++ flat_map (bad_table_blocks g new root) tables) (node_tables_sound g new root (node_at trie root) at_root)
-      ∙ sound_tables g new root tables fresh)
+    ∙ append-nil (flat_map (bad_table_blocks g new root) ((node_at trie root).tables ++ tables))
+    ∙ flat_map-append (bad_table_blocks g new root) (node_at trie root).tables tables
+    ∙ ap (λ xs. xs ++ flat_map (bad_table_blocks g new root) tables) (node_tables_sound g new root (node_at trie root) at_root)
+    ∙ sound_tables g new root tables fresh)
     kept
 
 -- ---- the whole image

@@ -1,18 +1,13 @@
 -- The piles of the trie after a change, and what stays true of its nodes.
-use Rattle.std.proofs.Common.{◌≡◌, ℕ, zero, suc, ◌+◌, ◌*◌, ◌/◌, ◌<◌, ◌≤◌, refl, sym, ap, subst, ◌∙◌, List, [], ◌∷◌, ◌++◌, length, drop, Bool, true, false, not, cond, ◌&&◌, Option, Some, None, arith, append-nil, append_assoc, true≢false, eqb-true, leb-true, ltb-true}
-use Rattle.std.specs.Prelude.{T, ◌==◌, IsTrue, nat_le, nat_lt}
-use Rattle.std.specs.declared.cmp.Ordering.{Ordering}
+use Rattle.std.proofs.Common.{◌≡◌, ℕ, refl, sym, ap, subst, ◌∙◌, List, [], ◌∷◌, ◌++◌, length, Bool, true, false, not, cond, arith, eqb-true}
+use Rattle.std.specs.Prelude.{◌==◌}
 use Rattle.std.specs.declared.cmp.Ordering.TheVariants.{Less, Equal, Greater}
-use Rattle.std.specs.Ordering.{eq_by_cmp, is_eq, nat_cmp, ordering_then}
-use Rattle.std.specs.FinMap.{find, put, is_sorted, nat_cmp-IsAntisymmetric}
+use Rattle.std.specs.FinMap.{put}
 use Rattle.std.specs.FinMap.Entries.{where_key, by_order}
-use Rattle.std.specs.List.{filter, flat_map, fold, AllByRecursion}
-use Rattle.std.proofs.lemmas.Bool.{and_parts}
-use Rattle.lt_terms.specs.Hashes.{key_digit}
+use Rattle.std.specs.List.{filter, AllByRecursion}
 use Rattle.lt_format.specs.declared.node_id.NodeId.{NodeId}
-use Rattle.lt_format.specs.Trie.{Node, Trie, root, child, path, path_number, node_cmp, same_node, node_at, with_node, empty_node}
-use Rattle.lt_format.specs.Changes.{Change, flush, deal, rewrite, ChildChange, appended, child_after, after_child, without_oldest, after_change, children_fit, groups_fit}
-use Rattle.lt_format.specs.Trie.{is_last_level}
+use Rattle.lt_format.specs.Trie.{Node, Trie, root, path, path_number, node_cmp, same_node, node_at, with_node, empty_node}
+use Rattle.lt_format.specs.Changes.{flush, appended, after_change}
 use Rattle.lt_format.proofs.TrieLaws.{node_exact, if_any, node_at-with_node}
 
 -- ---- a fact of all nodes

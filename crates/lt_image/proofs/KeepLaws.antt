@@ -1,24 +1,20 @@
 -- A flush keeps what each key has.
-use Rattle.std.proofs.Common.{◌≡◌, ℕ, zero, suc, ◌+◌, ◌<◌, ◌≤◌, refl, sym, ap, subst, ◌∙◌, List, [], ◌∷◌, ◌++◌, take, drop, Bool, true, false, cond, Option, Some, None, arith, append-nil, take-append-drop, true≢false, eq-eqb, ⊎_elim}
-use Rattle.std.proofs.lemmas.Bool.{cases_eq}
-use Rattle.std.specs.Prelude.{T, ◌==◌, IsTrue}
-use Rattle.std.specs.List.{flat_map, AllByRecursion, AllZip}
+use Rattle.std.proofs.Common.{◌≡◌, ℕ, zero, suc, ◌<◌, refl, sym, ap, ◌∙◌, List, ◌++◌, Bool, true, false, cond, Option, arith}
+use Rattle.std.specs.List.{flat_map, AllByRecursion}
 use Rattle.std.specs.Option.{option_or}
 use Rattle.std.proofs.lemmas.List.Concat.{flat_map-append}
 use Rattle.std.proofs.lemmas.Cmp.{eq_by_cmp_equiv}
-use Rattle.lt_terms.specs.Hashes.{key_digit}
 use Rattle.lt_terms.specs.Items.{Item}
-use Rattle.lt_tables.specs.Merge.{newest_of, newest, with_digit, without_deletes, value_of}
-use Rattle.lt_tables.specs.Alike.{SameNewest, HasOnce}
-use Rattle.lt_tables.proofs.RankLaws.{newest_or}
-use Rattle.lt_tables.proofs.NewestLaws.{newest_of-append, SameNewest-each, newest_of-newest, newest_of-with_digit, newest_of-without_deletes, HasOnce-newest, put_only, value_of-put_only}
+use Rattle.lt_tables.specs.Merge.{newest_of}
+use Rattle.lt_tables.specs.Alike.{SameNewest}
+use Rattle.lt_tables.proofs.NewestLaws.{newest_of-append, SameNewest-each}
 use Rattle.lt_format.specs.declared.node_id.NodeId.{NodeId}
-use Rattle.lt_format.specs.Trie.{Node, Trie, root, child, path, path_number, same_node, node_at}
-use Rattle.lt_format.specs.Changes.{Change, flush, deal, rewrite, ChildChange, after_change}
+use Rattle.lt_format.specs.Trie.{Trie, root, path, same_node, node_at}
+use Rattle.lt_format.specs.Changes.{flush, after_change}
 use Rattle.lt_image.proofs.ChangeLaws.{tables-flush, path-root}
 use Rattle.lt_format.proofs.TrieLaws.{node_total, same_node-same}
 use Rattle.lt_image.proofs.Words.{on_level, on_path}
-use Rattle.lt_image.proofs.PathLaws.{newest_or-is, option_or-assoc, option_or-none}
+use Rattle.lt_image.proofs.PathLaws.{newest_or-is, option_or-assoc}
 
 -- the tables that a trie names hold under `new` what they held under `old`
 pub record KeepsTables (old new : ℕ → List Item) (trie : Trie) : Type 0 where
@@ -27,14 +23,14 @@ pub record KeepsTables (old new : ℕ → List Item) (trie : Trie) : Type 0 wher
 kept_pile : (old new : ℕ → List Item) (trie : Trie) (id : NodeId) (key : List ℕ) → KeepsTables old new trie → newest_of key (flat_map new (node_at trie id).tables) ≡ newest_of key (flat_map old (node_at trie id).tables)
 kept_pile old new trie id key k = (SameNewest-each new old (node_at trie id).tables (k.each id)).each key
 
-other_level : (a b : NodeId) → (a.level ≡ b.level → ⊥) → same_node a b ≡ false
+pub other_level : (a b : NodeId) → (a.level ≡ b.level → ⊥) → same_node a b ≡ false
 other_level a b apart = decide (same_node a b) refl
   where
     decide : (s : Bool) → same_node a b ≡ s → same_node a b ≡ false
     decide true e = absurd (apart (ap (λ (id : NodeId). id.level) (same_node-same a b e)))
     decide false e = e
 
-itself : (id : NodeId) → same_node id id ≡ true
+pub itself : (id : NodeId) → same_node id id ≡ true
 itself id = (eq_by_cmp_equiv node_total).refl id
 
 -- ---- on a path

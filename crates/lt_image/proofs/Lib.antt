@@ -1,4 +1,5 @@
 pub mod Words
+pub mod ListLaws
 pub mod ChangeLaws
 pub mod PathLaws
 pub mod SoundLaws
@@ -11,3 +12,8 @@ pub mod WholeLaws
 pub mod OpenLaws
 pub mod StandLaws
 pub mod PlacedLaws
+pub mod KeptLaws
+pub mod LocalLaws
+pub mod CountLaws
+pub mod RootLaws
+pub mod PrefixLaws

@@ -1,10 +1,8 @@
 -- The map of an image after a flush is the map before.
-use Rattle.std.proofs.Common.{◌≡◌, ℕ, zero, suc, ◌+◌, ◌<◌, ◌≤◌, refl, sym, ap, subst, ◌∙◌, List, [], ◌∷◌, ◌++◌, take, map, length, Bool, true, false, cond, Option, Some, None, arith}
-use Rattle.std.specs.Prelude.{IsTrue, T}
-use Rattle.std.specs.Ordering.{nat_cmp}
-use Rattle.std.specs.Cmp.Lexicographic.{slice_cmp, nat_list_cmp_total}
+use Rattle.std.proofs.Common.{◌≡◌, ℕ, suc, ◌<◌, sym, ap, subst, ◌∙◌, List, [], ◌∷◌, Bool, true, false, cond, Option, Some, arith}
+use Rattle.std.specs.Cmp.Lexicographic.{nat_list_cmp_total}
 use Rattle.std.specs.FinMap.{same_map, slice_cmp-IsAntisymmetric, nat_cmp-IsAntisymmetric, find}
-use Rattle.std.specs.List.{flat_map, AllByRecursion, range_with_len, filter}
+use Rattle.std.specs.List.{flat_map, AllByRecursion}
 use Rattle.std.specs.Option.{option_or, unwrap_or}
 use Rattle.lt_terms.specs.Bytes.{Image}
 use Rattle.lt_terms.specs.Items.{Item}
@@ -12,19 +10,21 @@ use Rattle.lt_terms.specs.Maps.{Map, value_at}
 use Rattle.lt_tables.specs.Bucket.{items_on}
 use Rattle.lt_tables.specs.Placement.{columns}
 use Rattle.lt_tables.specs.Table.{table_items}
-use Rattle.lt_tables.specs.Merge.{newest_of, newest, value_of, without_deletes}
+use Rattle.lt_tables.specs.Merge.{newest_of, value_of}
 use Rattle.lt_tables.specs.Alike.{SameNewest}
+use Rattle.lt_tables.proofs.FitLaws.{all_weaker}
 use Rattle.lt_tables.proofs.TableLaws.{flat_map-range}
 use Rattle.lt_tables.proofs.NewestLaws.{SameNewest-refl}
 use Rattle.lt_tables.proofs.VersionLaws.{get_versions}
 use Rattle.lt_format.specs.declared.node_id.NodeId.{NodeId}
 use Rattle.lt_format.specs.declared.geometry.Geometry.{Geometry}
 use Rattle.lt_format.specs.Trie.{Node, Trie, node_cmp, node_at, named, node_extents, empty_node}
-use Rattle.lt_format.specs.Changes.{Change, flush, deal, rewrite, ChildChange, after_change}
+use Rattle.lt_format.specs.Changes.{Change, flush, after_change}
 use Rattle.lt_image.specs.Opening.{Opened, log_items}
 use Rattle.lt_image.specs.Versions.{extent_in, items_at, versions, map_of}
 use Rattle.lt_image.proofs.Words.{IsSorted, on_level, on_path}
 use Rattle.lt_image.specs.After.{SameExtents, Follows}
+use Rattle.lt_image.proofs.ListLaws.{all_left, all_right}
 use Rattle.lt_image.proofs.PathLaws.{newest_of-versions}
 use Rattle.lt_image.proofs.KeepLaws.{KeepsTables, flush-found}
 
@@ -34,18 +34,6 @@ unfolding columns
 same_items old new same = flat_map-range (λ c. items_on (new c)) (λ c. items_on (old c)) 0 64 (λ c small. ap items_on (same c (omega arith)))
 
 -- ---- extents that are as before
-
-all_left : {A : Type 0} (P : A → Type 0) (xs ys : List A) → AllByRecursion P (xs ++ ys) → AllByRecursion P xs
-all_left P [] ys all = tt
-all_left P (x ∷ xs) ys all = (all.0, all_left P xs ys all.1)
-
-all_right : {A : Type 0} (P : A → Type 0) (xs ys : List A) → AllByRecursion P (xs ++ ys) → AllByRecursion P ys
-all_right P [] ys all = all
-all_right P (x ∷ xs) ys all = all_right P xs ys all.1
-
-all_within : {A : Type 0} (P Q : A → Type 0) → ((x : A) → P x → Q x) → (xs : List A) → AllByRecursion P xs → AllByRecursion Q xs
-all_within P Q f [] all = tt
-all_within P Q f (x ∷ xs) all = (f x all.0, all_within P Q f xs all.1)
 
 found_all : (P : ℕ → Type 0) (id : NodeId) (e : NodeId × Node) (es : Trie) (same : Bool) → AllByRecursion P e.1.tables → AllByRecursion P (unwrap_or (find node_cmp id es) empty_node).tables → AllByRecursion P (unwrap_or (cond same (Some e.1) (find node_cmp id es)) empty_node).tables
 found_all P id e es true here rest = here
@@ -63,10 +51,12 @@ named-tables P trie id all = node_all P id trie all
 
 -- so the tables that were named keep their items
 pub kept-tables : (g : Geometry) (old new : Image) (trie : Trie) → SameExtents g old new (named trie) → KeepsTables (items_at g old) (items_at g new) trie
-kept-tables g old new trie same = record { each = λ id.
-    all_within (λ x. (c : ℕ) → c < 65 → extent_in g new x c ≡ extent_in g old x c) (λ x. SameNewest (items_at g new x) (items_at g old x))
-    (λ x h. subst (λ xs. SameNewest (items_at g new x) xs) (same_items (extent_in g old x) (extent_in g new x) h) (SameNewest-refl (items_at g new x)))
-    (node_at trie id).tables (named-tables (λ x. (c : ℕ) → c < 65 → extent_in g new x c ≡ extent_in g old x c) trie id same) }
+kept-tables g old new trie same = record {
+  each = λ id.
+      all_weaker (λ x. (c : ℕ) → c < 65 → extent_in g new x c ≡ extent_in g old x c) (λ x. SameNewest (items_at g new x) (items_at g old x))
+      (λ x h. subst (λ xs. SameNewest (items_at g new x) xs) (same_items (extent_in g old x) (extent_in g new x) h) (SameNewest-refl (items_at g new x)))
+      (node_at trie id).tables (named-tables (λ x. (c : ℕ) → c < 65 → extent_in g new x c ≡ extent_in g old x c) trie id same);
+}
 
 -- ---- maps
 
@@ -97,7 +87,7 @@ unfolding read_by
 flush-map o p old new tables n f levels s t empty holds = maps_same (map_of p new) (map_of o old) (λ key.
     read_after o p old new (flush tables) [] key f empty t
     ∙ ap value_of (
-      ap (on_path (on_level (items_at o.named.geometry new) (after_change o.named.manifest.trie (flush tables)) key)) levels
-      ∙ flush-found (items_at o.named.geometry old) (items_at o.named.geometry new) o.named.manifest.trie tables (log_items o) key n (kept-tables o.named.geometry old new o.named.manifest.trie f.kept) holds
-      ∙ ap (λ l. option_or (newest_of key (log_items o)) (on_path (on_level (items_at o.named.geometry old) o.named.manifest.trie key) l)) (sym levels))
+    ap (on_path (on_level (items_at o.named.geometry new) (after_change o.named.manifest.trie (flush tables)) key)) levels
+    ∙ flush-found (items_at o.named.geometry old) (items_at o.named.geometry new) o.named.manifest.trie tables (log_items o) key n (kept-tables o.named.geometry old new o.named.manifest.trie f.kept) holds
+    ∙ ap (λ l. option_or (newest_of key (log_items o)) (on_path (on_level (items_at o.named.geometry old) o.named.manifest.trie key) l)) (sym levels))
     ∙ sym (read_versions o old key s))

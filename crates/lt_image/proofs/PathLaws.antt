@@ -1,14 +1,12 @@
 -- The newest of all versions of a key is what a search along one path finds first.
-use Rattle.std.proofs.Common.{◌≡◌, ℕ, zero, suc, ◌+◌, refl, sym, ap, subst, ◌∙◌, List, [], ◌∷◌, ◌++◌, map, reverse, Bool, true, false, cond, ◌&&◌, Option, Some, None, arith, append-nil, true≢false, eq-eqb, eqb-true}
-use Rattle.std.specs.Prelude.{T, ◌==◌, IsTrue}
-use Rattle.std.specs.declared.cmp.Ordering.{Ordering}
-use Rattle.std.specs.declared.cmp.Ordering.TheVariants.{Less, Equal, Greater}
-use Rattle.std.specs.Ordering.{eq_by_cmp, is_eq, is_lt, nat_cmp, ordering_then}
-use Rattle.std.specs.FinMap.{find, is_sorted, nat_cmp-IsAntisymmetric}
+use Rattle.std.proofs.Common.{◌≡◌, ℕ, zero, suc, ◌+◌, refl, sym, ap, subst, ◌∙◌, List, [], ◌∷◌, ◌++◌, map, reverse, Bool, true, false, cond, Option, Some, None, arith, append-nil, true≢false, eq-eqb, eqb-true}
+use Rattle.std.specs.Prelude.{◌==◌}
+use Rattle.std.specs.FinMap.{find, is_sorted}
 use Rattle.std.specs.FinMap.Entries.{below_all}
 use Rattle.std.specs.Cmp.Lexicographic.{bytes_decides}
-use Rattle.std.specs.List.{last_or, filter, flat_map, AllByRecursion, range_with_len, enumerate_from}
+use Rattle.std.specs.List.{last_or, flat_map, AllByRecursion, range_with_len, enumerate_from}
 use Rattle.std.specs.Option.{option_or, unwrap_or}
+use Rattle.std.proofs.lemmas.Bool.{and_parts}
 use mathlib.Core.List.{reverse-cons}
 use Rattle.std.proofs.lemmas.List.Concat.{flat_map-append}
 use Rattle.lt_terms.specs.Bytes.{Image, same_bytes}
@@ -23,7 +21,7 @@ use Rattle.lt_format.specs.declared.node_id.NodeId.{NodeId}
 use Rattle.lt_format.specs.declared.geometry.Geometry.{Geometry}
 use Rattle.lt_format.specs.Trie.{Node, Trie, path, same_node, node_cmp, node_at, empty_node}
 use Rattle.lt_format.proofs.TrieLaws.{same_node-same, find-below}
-use Rattle.lt_image.specs.OnPath.{Stop, stops, stops_of}
+use Rattle.lt_image.specs.OnPath.{Stop, stops_of}
 use Rattle.lt_image.specs.Opening.{Opened, log_items}
 use Rattle.lt_image.specs.Versions.{items_at, items_above, level_nodes, versions, map_of}
 use Rattle.lt_image.specs.OnPath.{first_some, at_stops, found}
@@ -55,18 +53,6 @@ Belongs-pile id held (x ∷ tables) all = Belongs-append id (held x) (flat_map h
 
 -- ---- one level
 
-first : (a b : Bool) → T (a && b) → T a
-first true b p = tt
-first false b p = absurd p
-
-from_T : (b : Bool) → T b → b ≡ true
-from_T true t = refl
-from_T false t = absurd t
-
-second : (a b : Bool) → T (a && b) → T b
-second true b p = p
-second false b p = absurd p
-
 pile_at : (ℕ → List Item) → Option Node → List Item
 pile_at held o = flat_map held (unwrap_or o empty_node).tables
 
@@ -88,23 +74,23 @@ level_step held key level e es true false h s there none away ih =
 level_step held key level e es false true h s there none away ih = absurd (true≢false (sym (there refl)))
 level_step held key level e es false false h s there none away ih = ih
 
-level_found : (held : ℕ → List Item) (key : List ℕ) (level : ℕ) (es : Trie) → T (is_sorted node_cmp es) → AllByRecursion (PileBelongs held) es
+level_found : (held : ℕ → List Item) (key : List ℕ) (level : ℕ) (es : Trie) → is_sorted node_cmp es ≡ true → AllByRecursion (PileBelongs held) es
     → newest_of key (flat_map (λ (e : NodeId × Node). flat_map held e.1.tables) (level_nodes es level)) ≡ newest_of key (pile_at held (find node_cmp (path key level) es))
 unfolding pile_at
 level_found held key level [] s b = refl
 level_found held key level (e ∷ es) s b =
-    let below : T (below_all node_cmp e.0 es) = first (below_all node_cmp e.0 es) (is_sorted node_cmp es) s in
+    let parts = and_parts (below_all node_cmp e.0 es) (is_sorted node_cmp es) s in
     level_step held key level e es (e.0.level == level) (same_node (path key level) e.0) refl refl
     (λ same. let is : path key level ≡ e.0 = same_node-same (path key level) e.0 same in eq-eqb e.0.level level (sym (ap (λ (id : NodeId). id.level) is)))
-    (λ same. let is : path key level ≡ e.0 = same_node-same (path key level) e.0 same in subst (λ id. find node_cmp id es ≡ None) (sym is) (find-below e.0 es (from_T (below_all node_cmp e.0 es) below)))
+    (λ same. let is : path key level ≡ e.0 = same_node-same (path key level) e.0 same in subst (λ id. find node_cmp id es ≡ None) (sym is) (find-below e.0 es parts.0))
     (λ here other. ap (last_or None) (elsewhere e.0 key (flat_map held e.1.tables) (Belongs-pile e.0 held e.1.tables b.0) (ap (λ l. same_node (path key l) e.0) (eqb-true e.0.level level here) ∙ other)))
-    (level_found held key level es (second (below_all node_cmp e.0 es) (is_sorted node_cmp es) s) b.1)
+    (level_found held key level es parts.1 b.1)
 
 -- the newest version of a key on a level is that of the pile on its path
 pub newest_of-level : (held : ℕ → List Item) (trie : Trie) (key : List ℕ) (level : ℕ) → IsSorted held trie
     → newest_of key (flat_map (λ (e : NodeId × Node). flat_map held e.1.tables) (level_nodes trie level)) ≡ on_level held trie key level
 unfolding node_at pile_at
-newest_of-level held trie key level s = level_found held key level trie (subst T (sym s.rising) tt) s.belong
+newest_of-level held trie key level s = level_found held key level trie s.rising s.belong
 
 -- ---- all levels
 

@@ -1,10 +1,9 @@
 -- Each table that a sound image names is placed, and its filters cover its keys.
-use Rattle.std.proofs.Common.{◌≡◌, ℕ, zero, suc, ◌+◌, ◌<◌, ◌≤◌, refl, sym, ap, subst, ◌∙◌, List, [], ◌∷◌, ◌++◌, Bool, true, false, not, cond, ◌||◌, Option, Some, None, Ok, arith, ⊎_elim, true≢false}
-use Rattle.std.specs.Prelude.{IsTrue, IsFalse, All}
+use Rattle.std.proofs.Common.{◌≡◌, ℕ, zero, suc, ◌+◌, ◌<◌, ◌≤◌, refl, sym, ap, ◌∙◌, List, [], ◌∷◌, Bool, true, false, not, cond, ◌||◌, Option, Some, None, arith, ⊎_elim, true≢false}
+use Rattle.std.specs.Prelude.{IsFalse}
 use Rattle.std.specs.List.{filter, flat_map, list_any, range_with_len, AllByRecursion, enumerate_from, last_or}
 use Rattle.std.specs.Cmp.Lexicographic.{bytes_decides}
 use Rattle.std.proofs.lemmas.Bool.{cases_eq, not-false}
-use Rattle.std.proofs.lemmas.List.Elements.{All-from_recursion}
 use Rattle.lt_terms.specs.Bytes.{Image, same_bytes}
 use Rattle.lt_terms.specs.Hashes.{home_column}
 use Rattle.lt_terms.specs.Items.{Item}
@@ -15,14 +14,15 @@ use Rattle.lt_tables.specs.Table.{bucket_in, IsPlaced}
 use Rattle.lt_tables.specs.Merge.{newest, newest_of}
 use Rattle.lt_tables.proofs.NewestLaws.{newest_of-newest}
 use Rattle.lt_tables.proofs.CoverLaws.{covers-filter_block}
+use Rattle.lt_tables.proofs.FitLaws.{all_weaker}
 use Rattle.lt_format.specs.declared.node_id.NodeId.{NodeId}
 use Rattle.lt_format.specs.declared.geometry.Geometry.{Geometry}
 use Rattle.lt_format.specs.Layout.{extent_block}
 use Rattle.lt_format.specs.Trie.{Node, node_at}
-use Rattle.lt_image.specs.Opening.{Opened, open_image}
+use Rattle.lt_image.specs.Opening.{Opened}
 use Rattle.lt_image.specs.Versions.{extent_in, items_at}
-use Rattle.lt_image.specs.Soundness.{block_if, spells, located_items, stray_columns, misplaced_columns, bad_in_table, bad_table_blocks, bad_group_blocks, bad_node_blocks, bad_blocks}
-use Rattle.lt_image.proofs.SoundLaws.{nil_append, nil_map, nil_flat_map, nil_block_if, all_map}
+use Rattle.lt_image.specs.Soundness.{block_if, spells, misplaced_columns, bad_in_table, bad_table_blocks, bad_group_blocks, bad_node_blocks, bad_blocks}
+use Rattle.lt_image.proofs.SoundLaws.{nil_append, nil_map, nil_flat_map, nil_block_if}
 use Rattle.lt_image.proofs.SpellsLaws.{spells-reads}
 use Rattle.lt_image.proofs.AfterLaws.{node_at-holds, sound_nodes}
 
@@ -32,6 +32,7 @@ nothing_kept test a (suc n) c e low high = step (test a) refl e (λ rest more. n
   where
     above : (a ≡ c → ⊥) → a + 1 ≤ c
     above other = omega arith
+
     step : (b : Bool) → test a ≡ b → cond b (a ∷ filter test (range_with_len (a + 1) n)) (filter test (range_with_len (a + 1) n)) ≡ [] → (filter test (range_with_len (a + 1) n) ≡ [] → a + 1 ≤ c → test c ≡ false) → test c ≡ false
     step true t e ih = cc
     step false t e ih = ⊎_elim (λ (is : a ≡ c). ap test (sym is) ∙ t) (λ (other : a ≡ c → ⊥). ih e (above other)) (cases_eq a c)
@@ -75,7 +76,7 @@ placed-skips items block key p none = by_any (list_any (λ (v : Item). same_byte
 
 sound_tables-placed : (g : Geometry) (image : Image) (id : NodeId) (tables : List ℕ) → AllByRecursion (λ x. bad_table_blocks g image id x ≡ []) tables → AllByRecursion (λ x. IsPlaced (newest (items_at g image x)) (extent_in g image x)) tables
 sound_tables-placed g image id tables sound =
-    all_map (λ x. bad_table_blocks g image id x ≡ []) (λ x. IsPlaced (newest (items_at g image x)) (extent_in g image x))
+    all_weaker (λ x. bad_table_blocks g image id x ≡ []) (λ x. IsPlaced (newest (items_at g image x)) (extent_in g image x))
     (λ x none. sound_table-placed id (extent_in g image x) (newest (items_at g image x)) (nil_map (λ c. extent_block g x + c) (bad_in_table id (extent_in g image x) (newest (items_at g image x))) none))
     tables sound
 
@@ -90,6 +91,6 @@ named-placed image o id sound =
 pub named-skips : (image : Image) (o : Opened) (id : NodeId) (key : List ℕ) → bad_blocks o image ≡ [] → AllByRecursion (λ x. IsFalse (covers (extent_in o.named.geometry image x 64) (home_column key) key) → newest_of key (items_at o.named.geometry image x) ≡ None) (node_at o.named.manifest.trie id).tables
 named-skips image o id key sound =
     let g : Geometry = o.named.geometry in
-    all_map (λ x. IsPlaced (newest (items_at g image x)) (extent_in g image x)) (λ x. IsFalse (covers (extent_in g image x 64) (home_column key) key) → newest_of key (items_at g image x) ≡ None)
+    all_weaker (λ x. IsPlaced (newest (items_at g image x)) (extent_in g image x)) (λ x. IsFalse (covers (extent_in g image x 64) (home_column key) key) → newest_of key (items_at g image x) ≡ None)
     (λ x p none. sym (newest_of-newest key (items_at g image x)) ∙ placed-skips (newest (items_at g image x)) (extent_in g image x) key p none)
     (node_at o.named.manifest.trie id).tables (named-placed image o id sound)

@@ -1,26 +1,30 @@
 -- What a sound image gives: each table holds only items that lead to its node.
-use Rattle.std.proofs.Common.{◌≡◌, ℕ, zero, suc, ◌+◌, refl, sym, ap, subst, ◌∙◌, List, [], ◌∷◌, ◌++◌, map, length, Bool, true, false, not, cond, ◌||◌, Option, Some, None}
-use Rattle.std.specs.Prelude.{T, IsTrue, nat_lt}
+use Rattle.std.proofs.Common.{Option, Some, None, sym, ◌≡◌, ℕ, ◌+◌, refl, ap, subst, ◌∙◌, List, [], ◌∷◌, ◌++◌, map, Bool, true, false, not, ◌||◌}
+use Rattle.std.specs.Prelude.{IsTrue}
 use Rattle.std.specs.FinMap.{is_sorted}
-use Rattle.std.specs.List.{flat_map, filter, list_any, AllByRecursion, enumerate_from}
+use Rattle.std.specs.List.{flat_map, list_any, AllByRecursion, enumerate_from}
 use Rattle.std.proofs.lemmas.Bool.{or_parts, not-false}
 use Rattle.lt_terms.specs.Bytes.{Image, same_bytes}
 use Rattle.lt_terms.specs.Items.{Item}
-use Rattle.lt_terms.specs.Maps.{value_at}
+use Rattle.lt_terms.specs.Maps.{value_at, after_items}
 use Rattle.lt_tables.specs.Bucket.{items_on}
 use Rattle.lt_tables.specs.Placement.{columns}
 use Rattle.lt_tables.specs.Table.{table_items}
 use Rattle.lt_tables.specs.Merge.{newest, newest_of, value_of}
+use Rattle.lt_tables.proofs.FitLaws.{all_weaker}
+use Rattle.std.specs.Option.{option_or}
+use Rattle.lt_tables.proofs.VersionLaws.{newest_value, get_after_items}
+use Rattle.lt_tables.proofs.NewestLaws.{newest_of-append}
 use Rattle.lt_format.specs.declared.node_id.NodeId.{NodeId}
 use Rattle.lt_format.specs.declared.geometry.Geometry.{Geometry}
 use Rattle.lt_format.specs.Layout.{extent_block}
-use Rattle.lt_format.specs.Trie.{Node, Trie, path, same_node, node_cmp}
+use Rattle.lt_format.specs.Trie.{Node, path, same_node, node_cmp}
 use Rattle.lt_image.specs.Opening.{Opened, log_items}
 use Rattle.lt_image.specs.Versions.{extent_in, items_at, versions, map_of}
 use Rattle.lt_image.specs.Soundness.{block_if, located_items, stray_columns, bad_in_table, bad_table_blocks, bad_group_blocks, bad_node_blocks, bad_blocks}
-use Rattle.lt_image.specs.OnPath.{found}
+use Rattle.lt_image.specs.OnPath.{at_stops, found}
 use Rattle.lt_image.proofs.Words.{Belongs, PileBelongs, IsSorted}
-use Rattle.lt_image.proofs.PathLaws.{newest_of-found, value_at-map_of}
+use Rattle.lt_image.proofs.PathLaws.{newest_or-is, newest_of-found, value_at-map_of}
 
 -- ---- nothing in a joined list
 
@@ -43,10 +47,6 @@ flat_map_nil f (x ∷ xs) all = ap (λ ys. ys ++ flat_map f xs) all.0 ∙ flat_m
 pub nil_block_if : (test : Bool) (block : ℕ) → block_if test block ≡ [] → test ≡ false
 nil_block_if true block e = cc
 nil_block_if false block e = refl
-
-pub all_map : {A : Type 0} (P Q : A → Type 0) → ((x : A) → P x → Q x) → (xs : List A) → AllByRecursion P xs → AllByRecursion Q xs
-all_map P Q f [] all = tt
-all_map P Q f (x ∷ xs) all = (f x all.0, all_map P Q f xs all.1)
 
 -- ---- a table without bad blocks
 
@@ -89,7 +89,7 @@ sound_table-belongs id block items e =
 pub sound_node-belongs : (g : Geometry) (image : Image) (e : NodeId × Node) → bad_node_blocks g image e ≡ [] → PileBelongs (items_at g image) e
 sound_node-belongs g image e h =
     let parts = nil_append (flat_map (bad_table_blocks g image e.0) e.1.tables) (flat_map (bad_group_blocks g image e.1.tables) (enumerate_from 0 e.1.groups)) h in
-    all_map (λ x. bad_table_blocks g image e.0 x ≡ []) (λ x. Belongs e.0 (items_at g image x))
+    all_weaker (λ x. bad_table_blocks g image e.0 x ≡ []) (λ x. Belongs e.0 (items_at g image x))
     (λ x none. sound_table-belongs e.0 (extent_in g image x) (newest (items_at g image x)) (nil_map (λ c. extent_block g x + c) (bad_in_table e.0 (extent_in g image x) (newest (items_at g image x))) none))
     e.1.tables (nil_flat_map (bad_table_blocks g image e.0) e.1.tables parts.0)
 
@@ -99,7 +99,7 @@ sound-sorted o image rising e =
     let parts = nil_append (flat_map (bad_node_blocks o.named.geometry image) o.named.manifest.trie) _ e in
     record {
       rising = rising;
-      belong = all_map (λ n. bad_node_blocks o.named.geometry image n ≡ []) (PileBelongs (items_at o.named.geometry image)) (λ n. sound_node-belongs o.named.geometry image n) o.named.manifest.trie (nil_flat_map (bad_node_blocks o.named.geometry image) o.named.manifest.trie parts.0);
+      belong = all_weaker (λ n. bad_node_blocks o.named.geometry image n ≡ []) (PileBelongs (items_at o.named.geometry image)) (λ n. sound_node-belongs o.named.geometry image n) o.named.manifest.trie (nil_flat_map (bad_node_blocks o.named.geometry image) o.named.manifest.trie parts.0);
     }
 
 -- THE READING of a sound image
@@ -108,3 +108,17 @@ sound-found o image key rising e = newest_of-found o image key (sound-sorted o i
 
 pub sound-value : (o : Opened) (image : Image) (key : List ℕ) → IsTrue (is_sorted node_cmp o.named.manifest.trie) → bad_blocks o image ≡ [] → value_at (map_of o image) key ≡ value_of (found o image key)
 sound-value o image key rising e = value_at-map_of o image key (sound-sorted o image rising e)
+
+above_pending : (pending log tables : Option Item) → newest_value (value_of (option_or log tables)) pending ≡ value_of (option_or (option_or pending log) tables)
+above_pending None log tables = refl
+above_pending (Some v) log tables = refl
+
+-- with further items behind the log's
+pub sound-pending : (o : Opened) (image : Image) (items : List Item) (key : List ℕ) → IsTrue (is_sorted node_cmp o.named.manifest.trie) → bad_blocks o image ≡ []
+    → value_at (after_items (map_of o image) items) key ≡ value_of (option_or (newest_of key (log_items o ++ items)) (at_stops (items_at o.named.geometry image) o.named.geometry.levels o.named.manifest.trie key))
+sound-pending o image items key rising e =
+    let tables : Option Item = at_stops (items_at o.named.geometry image) o.named.geometry.levels o.named.manifest.trie key in
+    get_after_items (map_of o image) items key
+    ∙ ap (λ before. newest_value before (newest_of key items)) (sound-value o image key rising e)
+    ∙ above_pending (newest_of key items) (newest_of key (log_items o)) tables
+    ∙ ap (λ x. value_of (option_or x tables)) (sym (newest_of-append key (log_items o) items ∙ newest_or-is (newest_of key (log_items o)) (newest_of key items)))

@@ -1,5 +1,5 @@
 -- An image that stands for a state goes on standing for it after a flush.
-use Rattle.std.proofs.Common.{◌≡◌, ℕ, suc, ◌-◌, ◌≤◌, List, [], ◌∙◌, Ok, sym, ap, subst, arith}
+use Rattle.std.proofs.Common.{◌≡◌, ℕ, suc, ◌-◌, ◌≤◌, List, [], ◌∙◌, Ok, subst, arith}
 use Rattle.lt_terms.specs.Bytes.{Image}
 use Rattle.lt_language.specs.Machine.{State}
 use Rattle.lt_image.specs.Opening.{Opened, open_image, number_of}

@@ -1,20 +1,19 @@
 -- A placed table has no bad block, and a table whose blocks are as before has the bad blocks that it had.
-use Rattle.std.proofs.Common.{◌≡◌, ℕ, zero, suc, ◌+◌, ◌*◌, ◌<◌, ◌≤◌, refl, sym, ap, subst, ◌∙◌, List, [], ◌∷◌, ◌++◌, map, length, Bool, true, false, not, cond, ◌||◌, Option, Some, None, arith, ne_eqb}
-use Rattle.std.specs.Prelude.{IsTrue, ◌==◌, T, is_none, slice_range}
+use Rattle.std.proofs.Common.{◌≡◌, ℕ, zero, suc, ◌+◌, ◌<◌, ◌≤◌, refl, sym, ap, subst, ◌∙◌, List, [], ◌∷◌, ◌++◌, map, length, Bool, true, false, not, cond, ◌||◌, Option, Some, None, arith, ne_eqb}
+use Rattle.std.specs.Prelude.{◌==◌, T, is_none}
 use Rattle.std.specs.Bool.{one_answer}
 use Rattle.std.specs.Cmp.Lexicographic.{bytes_decides}
-use Rattle.std.specs.List.{flat_map, filter, list_any, range_with_len, AllByRecursion}
+use Rattle.std.specs.List.{flat_map, filter, list_any, range_with_len}
 use Rattle.std.specs.Option.{option_to_list}
 use Rattle.std.proofs.lemmas.Bool.{or_from}
-use Rattle.lt_terms.specs.Bytes.{Image, same_bytes}
+use Rattle.lt_terms.specs.Bytes.{same_bytes}
 use Rattle.lt_terms.specs.Items.{Item}
 use Rattle.lt_tables.specs.declared.ColumnPlan.{ColumnPlan}
-use Rattle.lt_tables.specs.Bucket.{Bucket, bucket_of, items_on}
+use Rattle.lt_tables.specs.Bucket.{bucket_of, items_on}
 use Rattle.lt_tables.specs.Filter.{filter_block}
 use Rattle.lt_tables.specs.Placement.{columns, placement_of}
 use Rattle.lt_tables.specs.Table.{place_of, bucket_in, IsPlaced, table_items}
 use Rattle.lt_tables.specs.Merge.{versions_of, newest_of, newest}
-use Rattle.lt_tables.specs.Group.{group_block}
 use Rattle.lt_tables.proofs.NewestLaws.{newest-alike}
 use Rattle.lt_tables.proofs.TableLaws.{flat_map-range, table_items-placed, versions_of-placed, SameNewest-placed}
 use Rattle.lt_format.specs.declared.node_id.NodeId.{NodeId}
@@ -75,8 +74,8 @@ stray_none id keys (found ∷ items) b h =
     let new : list_any (same_bytes key) keys ≡ false = none_any (same_bytes key) keys (no_room (same_bytes key key) found.1 (filter (same_bytes key) keys) (versions_of key rest) (same_bytes-refl key) (h key)) in
     ap (λ t. block_if t found.0 ++ stray_columns id (key ∷ keys) items) (or_from (not (same_node (path key id.level) id)) (list_any (same_bytes key) keys) (ap not b.0) new)
     ∙ stray_none id (key ∷ keys) items b.1 (λ k.
-      subst (λ t. length (cond t (key ∷ filter (same_bytes k) keys) (filter (same_bytes k) keys)) + length (versions_of k rest) ≤ 1) (same_bytes-sym key k)
-      (shift (same_bytes key k) found.1 key (filter (same_bytes k) keys) (versions_of k rest) (h k)))
+    subst (λ t. length (cond t (key ∷ filter (same_bytes k) keys) (filter (same_bytes k) keys)) + length (versions_of k rest) ≤ 1) (same_bytes-sym key k)
+    (shift (same_bytes key k) found.1 key (filter (same_bytes k) keys) (versions_of k rest) (h k)))
 
 belongs_filter : (id : NodeId) (test : Item → Bool) (xs : List Item) → Belongs id xs → Belongs id (filter test xs)
 belongs_filter id test [] b = tt
@@ -110,8 +109,8 @@ placed-sound id items block p h =
     let spelled : filter (λ c. is_none (bucket_of (block c))) (range_with_len 0 64) ≡ [] = none-range (λ c. is_none (bucket_of (block c))) 0 64 (λ c small. ap is_none (p.buckets c (omega arith))) in
     let some : (length items == 0) ≡ false = ne_eqb (length items) 0 (λ e. let any : 1 ≤ length items = h.any in absurd (omega arith)) in
     let at_home : stray_columns id [] (located_items block) ≡ [] = stray_none id [] (located_items block)
-      (subst (Belongs id) (sym (located-items block)) (Belongs-placed id p.plans items block p.buckets h.ranked h.belong))
-      (λ k. let short : length (versions_of k (map (λ (found : ℕ × Item). found.1) (located_items block))) ≤ 1 = subst (λ (xs : List Item). length xs ≤ 1) (sym (ap (versions_of k) (located-items block) ∙ versions_of-placed p.plans items block k within p.buckets)) (option_short (newest_of k items)) in omega arith) in
+    (subst (Belongs id) (sym (located-items block)) (Belongs-placed id p.plans items block p.buckets h.ranked h.belong))
+    (λ k. let short : length (versions_of k (map (λ (found : ℕ × Item). found.1) (located_items block))) ≤ 1 = subst (λ (xs : List Item). length xs ≤ 1) (sym (ap (versions_of k) (located-items block) ∙ versions_of-placed p.plans items block k within p.buckets)) (option_short (newest_of k items)) in omega arith) in
     let in_place : misplaced_columns block items (Some p.plans) ≡ [] = none-range (λ c. not (spells (block c) (bucket_in p.plans items c))) 0 64 (λ c small. ap not (spells-is (block c) (bucket_in p.plans items c) (p.buckets c (omega arith)))) in
     let filters : not (same_bytes (block 64) (filter_block items)) ≡ false = ap not (same_bytes-is (block 64) (filter_block items) p.filters) in
     ap (bad_in_table id block) items_are

@@ -1,38 +1,35 @@
 -- A flush of a sound image gives a sound image with the same map.
-use Rattle.std.proofs.Common.{◌≡◌, ℕ, zero, suc, ◌+◌, ◌<◌, ◌≤◌, refl, sym, ap, subst, ◌∙◌, List, [], ◌∷◌, ◌++◌, take, drop, length, Bool, true, false, cond, Option, Some, None, arith}
+use Rattle.std.proofs.Common.{◌≡◌, ℕ, suc, sym, ap, subst, ◌∙◌, List, [], ◌∷◌}
 use Rattle.std.specs.Prelude.{IsTrue, T}
 use Rattle.std.specs.FinMap.{is_sorted}
-use Rattle.std.specs.List.{flat_map, filter, fold, AllByRecursion, AllZip, enumerate_from}
+use Rattle.std.specs.List.{flat_map, AllByRecursion, AllZip}
 use Rattle.std.proofs.lemmas.Cmp.{eq_by_cmp_equiv}
 use Rattle.lt_terms.specs.Bytes.{Image}
 use Rattle.lt_terms.specs.Items.{Item}
-use Rattle.lt_tables.specs.Merge.{newest, without_deletes, is_put}
+use Rattle.lt_tables.specs.Merge.{newest}
 use Rattle.lt_tables.specs.Cut.{cut, IsTable}
-use Rattle.lt_tables.specs.Placement.{entry_of}
 use Rattle.lt_tables.specs.Table.{IsPlaced}
 use Rattle.lt_tables.specs.Alike.{SameNewest, is_ranked}
 use Rattle.lt_tables.proofs.NewestLaws.{SameNewest-flat_map, SameNewest-newest, SameNewest-trans}
 use Rattle.lt_tables.proofs.CutLaws.{cut-joined, cut-tables}
-use Rattle.lt_tables.proofs.RankedLaws.{ranked-newest, newest-ranked, ranked-filter, ranked-take, ranked-drop, pieces_all, each_take, each_drop, each_filter, each_newest}
-use Rattle.lt_tables.proofs.ValidLaws.{AllValid, AllValid-flat_map, table_items-valid, list_all-valid}
+use Rattle.lt_tables.proofs.RankedLaws.{ranked-newest, newest-ranked, ranked-take, ranked-drop, pieces_all, each_take, each_drop, each_newest}
+use Rattle.lt_tables.proofs.ValidLaws.{AllValid}
 use Rattle.lt_tables.proofs.TableLaws.{SameNewest-placed}
 use Rattle.lt_tables.proofs.PlanLaws.{placement-within}
 use Rattle.lt_format.specs.declared.node_id.NodeId.{NodeId}
 use Rattle.lt_format.specs.declared.geometry.Geometry.{Geometry}
-use Rattle.lt_format.specs.Trie.{Node, Trie, root, path, node_cmp, same_node, node_at}
-use Rattle.lt_format.specs.Changes.{Change, flush, deal, rewrite, ChildChange, appended, child_after, after_child, without_oldest, after_change}
+use Rattle.lt_format.specs.Trie.{root, node_cmp, same_node, node_at}
+use Rattle.lt_format.specs.Changes.{Change, flush, after_change}
 use Rattle.lt_image.proofs.ChangeLaws.{path-root}
 use Rattle.lt_format.proofs.TrieLaws.{node_total}
 use Rattle.lt_format.proofs.NamedLaws.{after_change-rising}
 use Rattle.lt_image.specs.Opening.{Opened, log_items}
-use Rattle.lt_image.specs.Versions.{extent_in, items_at, pile_items, map_of}
+use Rattle.lt_image.specs.Versions.{extent_in, items_at, map_of}
 use Rattle.lt_image.specs.Soundness.{bad_blocks}
-use Rattle.lt_image.proofs.Words.{Belongs, PileBelongs, IsSorted}
+use Rattle.lt_image.proofs.Words.{Belongs}
 use Rattle.lt_image.specs.After.{Follows, PlacedIn, Flushes}
-use Rattle.lt_image.proofs.PathLaws.{Belongs-pile}
 use Rattle.lt_image.proofs.SoundLaws.{sound-sorted}
 use Rattle.lt_image.proofs.MapLaws.{flush-map}
-use Rattle.lt_image.proofs.TableSoundLaws.{Holdable}
 use Rattle.lt_image.proofs.AfterLaws.{NewTable, SoundNodes, flush-nodes, sound_by_nodes, sound_nodes}
 
 -- ---- tables of a cut
@@ -57,7 +54,8 @@ cut_parts id items ranked valid belong = parts id (cut items)
 
 new_table : (g : Geometry) (image : Image) (id : NodeId) (x : ℕ) (items : List Item) → IsPart id items → IsPlaced items (extent_in g image x) → NewTable id (extent_in g image x)
 new_table g image id x items p placed = record {
-  items = items; placed = placed;
+  items = items;
+  placed = placed;
   may = record { ranked = ranked-newest items p.ranked; any = p.piece.any; belong = p.belong };
 }
 
@@ -101,8 +99,8 @@ at_root (v ∷ items) = (ap (λ id. same_node id root) (path-root v.key) ∙ (eq
 pub flush-sound : (o p : Opened) (old new : Image) (tables : List ℕ) → Flushes o p old new tables → (node_at o.named.manifest.trie root).groups ≡ [] → AllValid (log_items o) → bad_blocks o old ≡ [] → bad_blocks p new ≡ []
 flush-sound o p old new tables f bare valid sound =
     sound_by_nodes p new (follows-sound o p old new (flush tables) f.follows
-      (flush-nodes o.named.geometry old new o.named.manifest.trie tables f.follows.kept (sound_nodes o old sound) bare
-      (cut-new o.named.geometry new root (newest (log_items o)) tables (newest-ranked (log_items o)) (each_newest _ (log_items o) valid) (at_root (newest (log_items o))) f.placed)))
+    (flush-nodes o.named.geometry old new o.named.manifest.trie tables f.follows.kept (sound_nodes o old sound) bare
+    (cut-new o.named.geometry new root (newest (log_items o)) tables (newest-ranked (log_items o)) (each_newest _ (log_items o) valid) (at_root (newest (log_items o))) f.placed)))
     f.few
 
 -- A FLUSH of a sound image: sound, and the map is the same
@@ -112,5 +110,5 @@ flush-keeps o p old new tables n f levels rising bare valid sound =
     flush-map o p old new tables n f.follows levels (sound-sorted o old rising sound)
     (sound-sorted p new (follows-sorted o p old new (flush tables) f.follows rising) (flush-sound o p old new tables f bare valid sound)) f.emptied
     (SameNewest-trans (flat_map (items_at o.named.geometry new) tables) (newest (log_items o)) (log_items o)
-      (cut-held o.named.geometry new root (newest (log_items o)) tables (newest-ranked (log_items o)) (each_newest _ (log_items o) valid) (at_root (newest (log_items o))) f.placed)
-      (SameNewest-newest (log_items o)))
+    (cut-held o.named.geometry new root (newest (log_items o)) tables (newest-ranked (log_items o)) (each_newest _ (log_items o) valid) (at_root (newest (log_items o))) f.placed)
+    (SameNewest-newest (log_items o)))

@@ -1,12 +1,12 @@
 -- The tables on a key's path, and what a search along them finds.
-use Rattle.std.specs.Prelude.{ℕ, List, [], ◌∷◌, map, reverse, Option, None}
-use Rattle.std.specs.List.{flat_map, enumerate_from, range_with_len}
+use Rattle.std.specs.Prelude.{ℕ, Bool, List, [], ◌∷◌, map, reverse, Option, None}
+use Rattle.std.specs.List.{flat_map, list_all, enumerate_from, range_with_len}
 use Rattle.std.specs.Option.{option_or}
 use Rattle.lt_terms.specs.Bytes.{Image}
 use Rattle.lt_terms.specs.Items.{Item}
 use Rattle.lt_tables.specs.Merge.{newest_of}
 use Rattle.lt_format.specs.declared.node_id.NodeId.{NodeId}
-use Rattle.lt_format.specs.Trie.{Node, Trie, path, node_at}
+use Rattle.lt_format.specs.Trie.{Node, Trie, root, path, same_node, node_at}
 use Rattle.lt_image.specs.Opening.{Opened, log_items}
 use Rattle.lt_image.specs.Versions.{items_at}
 
@@ -23,6 +23,10 @@ stops_of id n = reverse (map (λ (p : ℕ × ℕ). record { node = id; index = p
 -- the tables on a key's path, from the root down
 abbrev pub stops : ℕ → Trie → List ℕ → List Stop
 stops levels trie key = flat_map (λ level. stops_of (path key level) (node_at trie (path key level))) (range_with_len 0 levels)
+
+-- the trie has no node but the root
+abbrev pub has_only_root : Trie → Bool
+has_only_root trie = list_all (λ (e : NodeId × Node). same_node e.0 root) trie
 
 -- what the first element gives that gives something
 abbrev pub first_some : {A B : Type 0} → (A → Option B) → List A → Option B

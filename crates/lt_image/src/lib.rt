@@ -2,7 +2,19 @@
 #![tactic(auto)]
 
 mod flushing;
+mod judging;
+mod keeping;
 mod looking;
+mod opening;
+mod prefixes;
+mod rooted;
 
-pub use flushing::flushes_stand;
+pub use flushing::{few_items_are_stored, flushes_commit, flushes_stand};
+pub use judging::pages_spell_what_is_read;
+pub use keeping::{
+    free_blocks_are_unnamed, fresh_images_stand, logs_grow, named_blocks_tell, writes_add_up,
+};
 pub use looking::{paths_tell, tables_answer};
+pub use opening::images_open;
+pub use prefixes::{images_stand_for_one, prefixes_grow};
+pub use rooted::{flushes_reach_the_root, roots_stand_alone};

@@ -1,5 +1,5 @@
 -- The text of replies that waits to be written: what is settled, what is not yet, and the room behind it.
-use Rattle.std.specs.Prelude.{◌≡◌, ℕ, ◌+◌, ◌-◌, ◌≤◌, List, [], ◌++◌, length, take, drop, vec_len, vec_capacity}
+use Rattle.std.specs.Prelude.{ℕ, ◌+◌, ◌-◌, ◌≤◌, List, [], ◌++◌, length, drop, slice_range, vec_capacity}
 use Rattle.lt_line.specs.declared.replies.Replies.TheInside.{Inside}
 
 -- how many bytes of text fit
@@ -31,17 +31,20 @@ without_front n w = record { settled_text = drop n w.settled_text; pending_text 
 abbrev pub settled_alone : Waiting → Waiting
 settled_alone w = record { settled_text = w.settled_text; pending_text = []; room = w.room + length w.pending_text }
 
--- the text begins behind what was dropped
-abbrev pub waiting_in : Inside → Waiting
-waiting_in r = record {
-  settled_text = take (r.settled - r.start) (drop r.start r.bytes.items);
-  pending_text = drop r.settled r.bytes.items;
-  room = reply_room - (vec_len r.bytes - r.start);
+-- in these bytes the text begins at one place, and what is not settled at another
+abbrev pub waiting_at : List ℕ → ℕ → ℕ → Waiting
+waiting_at bytes start settled = record {
+  settled_text = slice_range bytes start settled;
+  pending_text = drop settled bytes;
+  room = reply_room - (length bytes - start);
 }
+
+abbrev pub waiting_in : Inside → Waiting
+waiting_in r = waiting_at r.bytes.items r.start r.settled
 
 -- the places rise, and the bytes have room for all text
 pub record HasRoom (r : Inside) : Type 0 where
   pub start : r.start ≤ r.settled
-  pub settled : r.settled ≤ vec_len r.bytes
-  pub bytes : vec_len r.bytes ≤ reply_room
+  pub settled : r.settled ≤ length r.bytes.items
+  pub bytes : length r.bytes.items ≤ reply_room
   pub reserved : reply_room ≤ vec_capacity r.bytes

@@ -133,9 +133,7 @@ fn add_if_it_fits(replies: &mut Replies, text: &[u8]) -> usize {
 }
 
 #[test]
-fn settled_replies_are_dropped_and_their_room_comes_back(
-    rt: HostRuntime,
-) -> Result<(), NoMemory> {
+fn settled_replies_are_dropped_and_their_room_comes_back(rt: HostRuntime) -> Result<(), NoMemory> {
     let mut replies = Replies::new(rt.alloc())?;
     let text = vec![in rt.alloc(); b'x'; 40_000]?;
     assert_eq!(rt; add_if_it_fits(&mut replies, &text), 25_536);

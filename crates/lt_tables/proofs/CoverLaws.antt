@@ -30,6 +30,7 @@ in_home key p (v ∷ items) h q = step (same_bytes v.key key) refl h (λ rest. i
     later : (b : Bool) → is_in p (home_positions items (home_column key)) ≡ true → is_in p (flat_map (λ (w : Item). key_positions w.key) (cond b (v ∷ filter (λ (w : Item). home_column w.key == home_column key) items) (filter (λ (w : Item). home_column w.key == home_column key) items))) ≡ true
     later true h = in_right p (key_positions v.key) (home_positions items (home_column key)) h
     later false h = h
+
     step : (b : Bool) → same_bytes v.key key ≡ b → (b || list_any (λ (v : Item). same_bytes v.key key) items) ≡ true → (list_any (λ (v : Item). same_bytes v.key key) items ≡ true → is_in p (home_positions items (home_column key)) ≡ true)
         → is_in p (home_positions (v ∷ items) (home_column key)) ≡ true
     step true e h ih =
@@ -43,7 +44,7 @@ within_more : (x : ℕ) (ps qs : List ℕ) → AllByRecursion (λ p. is_in p ps 
 within_more x ps [] all = tt
 within_more x ps (q ∷ qs) all = (or_right (x == q) (is_in q ps) all.0, within_more x ps qs all.1)
 
-within_itself : (ps : List ℕ) → AllByRecursion (λ p. is_in p ps ≡ true) ps
+pub within_itself : (ps : List ℕ) → AllByRecursion (λ p. is_in p ps ≡ true) ps
 within_itself [] = tt
 within_itself (x ∷ ps) = (or_left (x == x) (is_in x ps) (eq-eqb x x refl), within_more x ps ps (within_itself ps))
 

@@ -328,7 +328,7 @@ total-none : {A : Type 0} (f : A → ℕ) (xs : List A) → AllByRecursion (λ x
 total-none f [] all = refl
 total-none f (x ∷ xs) all = let a : f x ≡ 0 = all.0 in let b = total-none f xs all.1 in omega arith
 
-all_weaker : {A : Type 0} (P Q : A → Type 0) → ((x : A) → P x → Q x) → (xs : List A) → AllByRecursion P xs → AllByRecursion Q xs
+pub all_weaker : {A : Type 0} (P Q : A → Type 0) → ((x : A) → P x → Q x) → (xs : List A) → AllByRecursion P xs → AllByRecursion Q xs
 all_weaker P Q f [] all = tt
 all_weaker P Q f (x ∷ xs) all = (f x all.0, all_weaker P Q f xs all.1)
 

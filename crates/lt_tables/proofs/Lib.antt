@@ -11,3 +11,4 @@ pub mod LookLaws
 pub mod ValidLaws
 pub mod VersionLaws
 pub mod CoverLaws
+pub mod RankedCutLaws

@@ -37,6 +37,7 @@ items_of-valid (suc n) bytes items h = by_front (front_item bytes) refl h (λ re
     by_rest : (v : Item) (o : Option (List Item)) (items : List Item) → IsTrue (is_valid v) → ((vs : List Item) → o ≡ Some vs → AllValid vs) → option_map (λ rest. v ∷ rest) o ≡ Some items → AllValid items
     by_rest v None items p q h = absurd (none-some items h)
     by_rest v (Some vs) items p q h = subst (λ xs. AllValid xs) (let e : v ∷ vs ≡ items = cc in e) (p, q vs refl)
+
     by_front : (o : Option (Item × List ℕ)) → front_item bytes ≡ o → option_and_then (λ first. option_map (λ rest. first.0 ∷ rest) (items_of n first.1)) o ≡ Some items → ((rest : List ℕ) (vs : List Item) → items_of n rest ≡ Some vs → AllValid vs) → AllValid items
     by_front None is h ih = absurd (none-some items h)
     by_front (Some found) is h ih = by_rest found.0 (items_of n found.1) items (front_item-valid bytes found is) (ih found.1) h

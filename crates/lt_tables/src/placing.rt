@@ -6,6 +6,7 @@ ghost use Rattle.lt_terms.specs.Items.{Item, is_valid};
 ghost use Rattle.lt_tables.specs.declared.Entry.{Entry};
 ghost use Rattle.lt_tables.specs.Bucket.{capacity};
 ghost use Rattle.lt_tables.specs.Placement.{placement, keeps_all};
+ghost use Rattle.lt_tables.specs.Merge.{newest};
 ghost use Rattle.lt_tables.specs.Cut.{cut, IsTable};
 
 /// The empty list has a placement, in which no column sends.
@@ -26,4 +27,12 @@ pub fn joins_again()
 /// Each table of a cut of valid items holds an item and has a placement.
 pub fn tables_are_placed()
     ensures { (items : List Item) → All (λ item. IsTrue (is_valid item)) items → All IsTable (cut items) }
+{}
+
+/// The newest items of versions are their own newest, in rank order, and so are those of each table
+/// of a cut of them. The tables of a cut of valid items have valid items.
+pub fn cuts_keep_ranks()
+    ensures newest { (versions : List Item) → newest (newest versions) ≡ newest versions }
+    ensures ranked { (items : List Item) → newest items ≡ items → All (λ table. newest table ≡ table) (cut items) }
+    ensures valid { (items : List Item) → All (λ item. IsTrue (is_valid item)) items → All (λ table. All (λ item. IsTrue (is_valid item)) table) (cut items) }
 {}

@@ -195,7 +195,10 @@ fn a_scan_tells_the_first_damaged_block(rt: HostRuntime) -> Result<(), Fail> {
         let mut device = Steady::new(alloc, BLOCKS)?;
         build_keys(alloc, &mut device, &KEYS)?;
         damage(alloc, &mut device, block)?;
-        assert_eq!(rt; keys(alloc, &mut device).err(), Some(ScanFault::Damaged(block)));
+        assert_eq!(rt;
+            keys(alloc, &mut device).err(),
+            Some(ScanFault::Damaged(block))
+        );
     }
     Ok(())
 }
@@ -207,10 +210,20 @@ fn a_failing_call_is_told(rt: HostRuntime) -> Result<(), Fail> {
     for (stop, built) in [(0, false), (64, false), (65, true)] {
         let mut device = MemDevice::new(alloc, BLOCKS, 65, Vec::new(alloc), Some(stop))?;
         let fault = build_keys(alloc, &mut device, &KEYS).err();
-        assert_eq!(rt; fault, if built { None } else { Some(BuildFault::Device) });
+        assert_eq!(rt;
+            fault,
+            if built {
+                None
+            } else {
+                Some(BuildFault::Device)
+            }
+        );
         assert_eq!(rt; find(alloc, &mut device, b"c"), Err(ScanFault::Device));
         assert_eq!(rt; keys(alloc, &mut device).err(), Some(ScanFault::Device));
-        assert_eq!(rt; covers(alloc, &mut device, b"c").err(), Some(BuildFault::Device));
+        assert_eq!(rt;
+            covers(alloc, &mut device, b"c").err(),
+            Some(BuildFault::Device)
+        );
     }
     Ok(())
 }
