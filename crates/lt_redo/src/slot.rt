@@ -20,10 +20,10 @@ pub fn write_slot<D: Device>(
     area: u8,
     slot: u16,
     content: &Page,
-    open: &Page,
+    opened: &Page,
 ) -> Result<(), Failed>
     requires within { log_content geometry.now area slot < D.blocks device.old }
-    requires opens { open.now ≡ gate_page true }
+    requires opens { opened.now ≡ gate_page true }
 
     // Each image since the start has the log as before, or with the whole group.
     ensures any_moment { (writes : ℕ) (groups : List (List Item)) (group : List Item)
@@ -45,6 +45,6 @@ pub fn write_slot<D: Device>(
     let gate = geometry.log_gate(area, slot);
     device.write(gate + 1, content)?;
     device.sync()?;
-    device.write(gate, open)?;
+    device.write(gate, opened)?;
     device.sync()
 }
