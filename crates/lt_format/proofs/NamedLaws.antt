@@ -80,9 +80,9 @@ flush-times x trie tables h some = by_tables (length ((unwrap_or (find node_cmp 
     by_tables : (none : Bool) → (length ((unwrap_or (find node_cmp root trie) empty_node).tables ++ tables) == 0) ≡ none
         → times x (named (cond none (where_key node_cmp (λ q. not (same_node root q)) trie) (put node_cmp root (appended (unwrap_or (find node_cmp root trie) empty_node) tables) trie))) ≡ times x (named trie) + times x tables
     by_tables true is = absurd (
-      let size : length ((unwrap_or (find node_cmp root trie) empty_node).tables ++ tables) ≡ length (unwrap_or (find node_cmp root trie) empty_node).tables + length tables = length-append (unwrap_or (find node_cmp root trie) empty_node).tables tables in
-      let none : length ((unwrap_or (find node_cmp root trie) empty_node).tables ++ tables) ≡ 0 = eqb-true _ 0 is in
-      omega (arith, size, none))
+        let size : length ((unwrap_or (find node_cmp root trie) empty_node).tables ++ tables) ≡ length (unwrap_or (find node_cmp root trie) empty_node).tables + length tables = length-append (unwrap_or (find node_cmp root trie) empty_node).tables tables in
+        let none : length ((unwrap_or (find node_cmp root trie) empty_node).tables ++ tables) ≡ 0 = eqb-true _ 0 is in
+        omega (arith, size, none))
     by_tables false is = counted
 
 child-times : (x : ℕ) (trie : Trie) (c : ChildChange) → is_sorted node_cmp trie ≡ true → times x (named (after_child trie c)) ≤ times x (named trie) + times x (c.tables ++ c.groups)

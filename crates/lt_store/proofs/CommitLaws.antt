@@ -1,29 +1,26 @@
 -- What the commit of the open group says of the store.
-use Rattle.std.proofs.Common.{◌≡◌, ◌≢◌, ℕ, ◌+◌, ◌-◌, ◌<◌, ◌≤◌, refl, sym, ap, subst, ◌∙◌, true, List, [], ◌∷◌, ◌++◌, length, take, drop, arith, append-nil, ⊎_elim, length-append, length-take}
+use Rattle.std.proofs.Common.{◌≡◌, ℕ, ◌+◌, ◌-◌, ◌<◌, ◌≤◌, refl, sym, ap, subst, ◌∙◌, List, [], ◌∷◌, ◌++◌, length, take, drop, arith, append-nil, length-append}
 use Rattle.std.specs.Prelude.{IsTrue, Bool}
-use Rattle.std.proofs.lemmas.Bool.{cases_lt}
 use Rattle.lt_terms.specs.Items.{Item}
 use Rattle.lt_device.specs.State as told
-use Rattle.lt_device.specs.Moments.{Leaves, MayLeave, ConfinedTo, UnsyncedIn}
+use Rattle.lt_device.specs.Moments.{MayLeave, ConfinedTo, UnsyncedIn}
 use Rattle.lt_language.specs.Machine.{State}
-use Rattle.lt_format.specs.Log.{items_in, log_fits, group_room}
+use Rattle.lt_format.specs.Log.{items_in, log_fits}
 use Rattle.lt_format.specs.Naming.{Named}
-use Rattle.lt_format.specs.Trie.{named}
 use Rattle.lt_redo.specs.LogState.{LogState, slots_with}
 use Rattle.lt_redo.specs.Slots.{HasLog, InSlot}
 use Rattle.lt_redo.proofs.NextGroup.{AnyMoment, Committed}
-use Rattle.lt_image.specs.Standing.{Stands, after_writes}
+use Rattle.lt_image.specs.Standing.{after_writes}
 use Rattle.lt_image.proofs.RootLaws.{root-named}
-use Rattle.lt_format.specs.Layout.{is_geometry}
 use Rattle.std.proofs.lemmas.Bool.{and_parts, leb-true}
 use Rattle.std.specs.Prelude.{nat_le}
 use Rattle.lt_store.specs.Committing.{committed, committed_log}
 use Rattle.lt_store.specs.Going.{Goes, Survives}
-use Rattle.lt_store.specs.Kept.{IsKept, logged, logged_count}
-use Rattle.lt_store.specs.Open.{IsOpen, StoreView, root_pile}
+use Rattle.lt_store.specs.Kept.{IsKept, logged}
+use Rattle.lt_store.specs.Open.{IsOpen, StoreView}
 use Rattle.lt_store.proofs.FlushLaws.{Fits}
 use Rattle.lt_store.proofs.GoLaws.{goes-none}
-use Rattle.lt_store.proofs.GroupLaws.{group-open, group-survives, idle-open, after_none, items_in-more, take-whole}
+use Rattle.lt_store.proofs.GroupLaws.{group-open, group-survives, idle-open, items_in-more, take-whole}
 use Rattle.lt_store.proofs.MomentLaws.{open-same}
 use Rattle.lt_store.proofs.SameLaws.{same-log}
 
@@ -52,7 +49,6 @@ group-fits v d s filters o k =
     subst (λ xs. IsTrue (log_fits v.log.writes xs)) (o.memory ∙ sym (items_in-more o.groups v.log.pending)) (subst (λ w. IsTrue (log_fits w v.memory)) (sym k.start) k.fits)
 
 module _ (v : StoreView) (d : State) (filters : ℕ) (old new : told.State) (k : IsKept v.named v.log v.memory v.taken filters v.writes) (o : IsOpen v d old) (any : AnyMoment v.log old new) (inside : ConfinedTo (InSlot v.log.geometry v.log.area v.log.slots) old new) where
-
   -- nothing is lost at any moment
   pub commit-survives : 0 < length v.log.pending → Survives v [] d old new
   commit-survives some =
@@ -129,8 +125,10 @@ commit-kept n log memory taken filters writes k =
     whole : (xs : List Item) → take (length xs) xs ≡ xs
     whole [] = refl
     whole (x ∷ xs) = ap (λ ys. x ∷ ys) (whole xs)
+
     all : (xs : List Item) → take (length xs - 0) xs ≡ xs
     all xs = let n : length xs - 0 ≡ length xs = omega arith in ap (λ k. take k xs) n ∙ whole xs
+
     slots : (p : List Item) → log.pending ≡ p → slots_with log.slots log.pending ≤ length memory - 0
     slots [] is = let none : slots_with log.slots log.pending ≡ log.slots = ap (slots_with log.slots) is in let e = k.enough in omega (arith, none, e)
     slots (x ∷ xs) is =
@@ -139,6 +137,7 @@ commit-kept n log memory taken filters writes k =
         let e = k.enough in
         let count : length memory ≡ length (logged log memory) + length log.pending = ap length k.items ∙ length-append (logged log memory) log.pending in
         omega (arith, some, e, size, count)
+
     inside : (p : List Item) → log.pending ≡ p → slots_with log.slots log.pending ≤ n.geometry.slots
     inside [] is = let none : slots_with log.slots log.pending ≡ log.slots = ap (slots_with log.slots) is in let w = k.within in omega (arith, none, w)
     inside (x ∷ xs) is =

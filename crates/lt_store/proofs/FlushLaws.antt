@@ -1,5 +1,5 @@
 -- The steps of a flush: the other log area is cleared, tables are built, and the manifest is committed.
-use Rattle.std.proofs.Common.{◌≡◌, ◌⊎◌, inl, inr, ⊎_elim, ℕ, ◌+◌, ◌-◌, ◌*◌, ◌/◌, ◌<◌, ◌≤◌, refl, sym, ap, subst, ◌∙◌, Bool, true, false, List, [], ◌∷◌, ◌++◌, length, Option, Some, None, Result, Ok, arith, append-nil}
+use Rattle.std.proofs.Common.{◌≡◌, ⊎_elim, ℕ, ◌+◌, ◌-◌, ◌/◌, ◌<◌, ◌≤◌, refl, sym, ap, subst, ◌∙◌, Bool, true, false, List, [], ◌∷◌, ◌++◌, length, Option, Some, None, Result, Ok, arith, append-nil}
 use Rattle.std.specs.Prelude.{IsTrue, slice_index_or}
 use Rattle.std.specs.List.{AllByRecursion, AllZip}
 use Rattle.lt_terms.specs.Bytes.{Image, block_at}
@@ -15,19 +15,18 @@ use Rattle.lt_tables.specs.Filter.{is_in}
 use Rattle.lt_tables.specs.Merge.{newest}
 use Rattle.lt_format.specs.declared.geometry.Geometry.{Geometry}
 use Rattle.lt_format.specs.declared.header.Header.{Header}
-use Rattle.lt_format.specs.Layout.{extent_block, log_gate}
+use Rattle.lt_format.specs.Layout.{extent_block}
 use Rattle.lt_format.specs.Log.{items_in}
 use Rattle.lt_format.specs.Naming.{Named, InManifest, manifest_of, after_commit}
 use Rattle.lt_format.specs.Snapshot.{Manifest}
-use Rattle.lt_format.specs.Trie.{named, root, node_at, all_below}
-use Rattle.lt_format.specs.Changes.{flush, after_change}
+use Rattle.lt_format.specs.Trie.{named}
+use Rattle.lt_format.specs.Changes.{flush}
 use Rattle.lt_manifest.specs.Moments.{Names, HasNew, HasOldOrNew}
 use Rattle.lt_redo.specs.LogState.{LogState, other_area}
 use Rattle.lt_redo.specs.Slots.{HasLog, InLogArea}
 use Rattle.lt_redo.proofs.AreaLaws.{has_log-local}
-use Rattle.lt_image.specs.After.{SameExtent, SameExtents, SameNamed, Follows, Flushes, PlacedIn}
+use Rattle.lt_image.specs.After.{SameExtent, SameNamed, Follows, PlacedIn}
 use Rattle.lt_image.specs.Opening.{Opened, open_image, number_of, log_items}
-use Rattle.lt_image.specs.OnPath.{has_only_root}
 use Rattle.lt_image.specs.Soundness.{bad_blocks}
 use Rattle.lt_image.specs.Standing.{Stands, is_free_block}
 use Rattle.lt_image.proofs.CountLaws.{flushes}
@@ -37,11 +36,11 @@ use Rattle.lt_image.proofs.RootLaws.{root-flush, root-tables}
 use Rattle.lt_image.proofs.StandLaws.{flush-stands}
 use Rattle.lt_store.specs.Building.{InExtents, KeepsFilter}
 use Rattle.lt_store.specs.Flushing.{Stays, AreFree, flushed_log, flushed}
-use Rattle.lt_store.specs.Open.{IsOpen, IsRootOnly, StoreView, root_pile}
+use Rattle.lt_store.specs.Open.{IsOpen, StoreView, root_pile}
 use Rattle.lt_store.proofs.SameLaws.{Same, same-other, same-unnamed, same-names}
 use Rattle.lt_image.specs.Versions.{extent_in as extent_at}
 use Rattle.lt_tables.specs.Table.{IsPlaced}
-use Rattle.lt_store.proofs.MomentLaws.{IsReady, IsSteady, open-steady, open-names, open-ready, open-agrees, open-same, open-from, keeps-same, same-stays, same-ready, sure-agrees}
+use Rattle.lt_store.proofs.MomentLaws.{IsReady, open-steady, open-names, open-ready, open-agrees, open-same, open-from, keeps-same, same-ready, sure-agrees}
 
 -- what a store in memory says of its view, whatever the device holds
 pub record Fits (v : StoreView) : Type 0 where
@@ -105,8 +104,10 @@ kept-filters g numbers old new image all (x ∷ xs) others apart sub kept =
   where
     first : (x : ℕ) (xs : List ℕ) → is_in x (x ∷ xs) ≡ true
     first x xs = grind arith
+
     behind : (y x : ℕ) (xs : List ℕ) → is_in y xs ≡ true → is_in y (x ∷ xs) ≡ true
     behind y x xs there = grind arith
+
     not_in : (x : ℕ) → is_in x all ≡ true → is_in x numbers ≡ false
     not_in x there = decide (is_in x numbers) refl
       where
@@ -129,8 +130,8 @@ built-open v d numbers kept old new o fits free others run =
     let now : ShownNow new = same.shows base o.rest.shown o.rest.tells in
     let ready : IsReady v d o.groups now.image = same-ready v d o.groups base now.image fits.area fits.pile (same.now now.image now.tells) (open-ready v d old o) in
     let near = λ (left : Image) (may : MayLeave new left).
-        let n = run.now left may in
-        same_outside_widens _ free_blocks base left (λ k either. ⊎_elim (λ f. f) (free-block v.named numbers free k) either) (same_outside_joins free_blocks (InExtents v.named.geometry numbers) base n.image left (open-agrees v d old o n.image n.was) n.same) in
+    let n = run.now left may in
+    same_outside_widens _ free_blocks base left (λ k either. ⊎_elim (λ f. f) (free-block v.named numbers free k) either) (same_outside_joins free_blocks (InExtents v.named.geometry numbers) base n.image left (open-agrees v d old o n.image n.was) n.same) in
     let steady = open-steady v d old o in
     open-from (with_kept v kept) d new o.groups now (record { slots = steady.slots; memory = steady.memory; root_only = steady.root_only })
     (record {
@@ -174,7 +175,6 @@ module _ (v : StoreView) (d : State) (old new : told.State) (o : IsOpen v d old)
     (idle : v.log.pending ≡ []) (other : header.log_area ≡ other_area v.named.manifest.header.log_area) (writes : header.writes ≡ v.named.manifest.header.writes + length v.memory)
     (clear : HasLog v.named.geometry (other_area v.named.manifest.header.log_area) header.writes [] o.rest.image)
     (placed : PlacedIn v.named.geometry o.rest.image numbers (cut (newest v.memory))) where
-
   after : Manifest
   after = after_commit v.named.manifest (flush numbers) header
 

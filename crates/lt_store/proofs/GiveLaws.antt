@@ -1,11 +1,11 @@
 -- Extents that are given back one after another.
-use Rattle.std.proofs.Common.{◌≡◌, ◌≢◌, ⊎_elim, ℕ, zero, suc, ◌+◌, ◌<◌, ◌≤◌, refl, sym, ap, subst, ◌∙◌, List, [], ◌∷◌, ◌++◌, length, get_or, set, take, Bool, true, false, not, ◌||◌, arith, get_or-set_same, get_or-set_other, length-set}
+use Rattle.std.proofs.Common.{◌≡◌, ◌≢◌, ⊎_elim, ℕ, zero, suc, ◌+◌, ◌<◌, ◌≤◌, refl, sym, ap, ◌∙◌, List, [], ◌∷◌, length, get_or, set, take, Bool, true, false, not, ◌||◌, arith, get_or-set_same, get_or-set_other, length-set}
 use Rattle.std.specs.Prelude.{◌==◌}
 use Rattle.std.proofs.lemmas.Bool.{cases_eq, eq-eqb, eqb-true}
 use Rattle.lt_tables.specs.Filter.{is_in}
 use Rattle.lt_alloc.specs.Extents.{is_free}
 use Rattle.lt_format.specs.Trie.{all_distinct}
-use Rattle.lt_store.proofs.NumberLaws.{is_in-at, apart-at}
+use Rattle.lt_store.proofs.NumberLaws.{apart-at}
 
 -- the first of these numbers are free now, and all that were
 pub record AreGiven (old now : List Bool) (numbers : List ℕ) (i : ℕ) : Type 0 where

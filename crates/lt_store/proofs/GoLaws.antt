@@ -1,9 +1,8 @@
 -- How calls of an open store follow one another.
-use Rattle.std.proofs.Common.{◌≡◌, ⊎_elim, ℕ, zero, suc, ◌+◌, ◌-◌, ◌<◌, ◌≤◌, refl, sym, ap, subst, ◌∙◌, List, [], ◌∷◌, ◌++◌, length, take, drop, arith, append-nil, append_assoc, length-append}
+use Rattle.std.proofs.Common.{◌≡◌, ℕ, zero, suc, ◌+◌, ◌≤◌, refl, sym, ap, subst, ◌∙◌, List, [], ◌∷◌, ◌++◌, length, take, drop, arith, append-nil, append_assoc, length-append}
 use Rattle.lt_terms.specs.Bytes.{Image}
 use Rattle.lt_terms.specs.Items.{Item}
 use Rattle.lt_device.specs.State as told
-use Rattle.lt_device.specs.Moments.{Leaves}
 use Rattle.lt_device.proofs.Runs.{begins, joins, weakens}
 use Rattle.lt_language.specs.Machine.{State}
 use Rattle.lt_image.specs.Standing.{Stands, IsPrefix, after_writes}

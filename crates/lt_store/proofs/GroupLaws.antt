@@ -1,7 +1,7 @@
 -- The commit of the open group.
-use Rattle.std.proofs.Common.{◌≡◌, ◌⊎◌, inl, inr, ⊎_elim, ℕ, zero, suc, ◌+◌, ◌-◌, ◌*◌, ◌/◌, ◌<◌, ◌≤◌, refl, sym, ap, subst, ◌∙◌, Bool, true, false, List, [], ◌∷◌, ◌++◌, length, take, drop, Option, Some, None, Result, Ok, arith, append-nil, append_assoc, length-append}
+use Rattle.std.proofs.Common.{◌≡◌, ⊎_elim, ℕ, zero, suc, ◌+◌, ◌<◌, refl, sym, ap, subst, ◌∙◌, List, [], ◌∷◌, ◌++◌, length, take, Some, None, Ok, arith, append-nil, length-append}
 use Rattle.std.specs.Prelude.{IsTrue, slice_index_or}
-use Rattle.std.specs.List.{AllByRecursion, flat_map}
+use Rattle.std.specs.List.{AllByRecursion}
 use Rattle.std.proofs.lemmas.List.Concat.{flat_map-append}
 use Rattle.lt_terms.specs.Bytes.{Image, block_at}
 use Rattle.lt_terms.specs.Items.{Item}
@@ -12,15 +12,15 @@ use Rattle.lt_device.proofs.Runs.{weakens, both}
 use Rattle.lt_language.specs.Machine.{State}
 use Rattle.lt_format.specs.declared.geometry.Geometry.{Geometry}
 use Rattle.lt_format.specs.Layout.{extent_block, log_gate}
-use Rattle.lt_format.specs.Log.{items_in, log_fits}
-use Rattle.lt_format.specs.Naming.{Named, manifest_of}
+use Rattle.lt_format.specs.Log.{items_in}
+use Rattle.lt_format.specs.Naming.{manifest_of}
 use Rattle.lt_format.specs.Trie.{named}
 use Rattle.lt_format.proofs.LocalLaws.{manifest-local}
 use Rattle.lt_manifest.specs.Moments.{Names}
 use Rattle.lt_redo.specs.LogState.{LogState, slots_with, groups_with}
 use Rattle.lt_redo.specs.Slots.{HasLog, HasLogOrLonger, InSlot}
-use Rattle.lt_image.specs.After.{Keeps, SameExtent, SameExtents}
-use Rattle.lt_image.specs.Opening.{Opened, open_image, log_items}
+use Rattle.lt_image.specs.After.{Keeps, SameExtent}
+use Rattle.lt_image.specs.Opening.{Opened, open_image}
 use Rattle.lt_image.specs.Standing.{Stands, is_free_block, after_writes, IsPrefix}
 use Rattle.lt_image.specs.Versions.{extent_in}
 use Rattle.lt_image.proofs.KeptLaws.{log-grows}
@@ -28,8 +28,8 @@ use Rattle.lt_image.proofs.OpenLaws.{is-opens}
 use Rattle.lt_store.specs.Building.{KeepsFilter}
 use Rattle.lt_store.specs.Committing.{committed, committed_log}
 use Rattle.lt_store.specs.Open.{IsOpen, StoreView, root_pile}
-use Rattle.lt_store.proofs.SameLaws.{Same, same-names, same-stands, same-log, same-filters}
-use Rattle.lt_store.proofs.MomentLaws.{IsReady, open-steady, open-names, open-ready, open-same, open-from, sure-agrees}
+use Rattle.lt_store.proofs.SameLaws.{same-names, same-log, same-filters}
+use Rattle.lt_store.proofs.MomentLaws.{open-names, open-same, open-from, sure-agrees}
 use Rattle.lt_store.proofs.FlushLaws.{Fits, each_all}
 
 pub items_in-more : (groups : List (List Item)) (group : List Item) → items_in (groups ++ group ∷ []) ≡ items_in groups ++ group
@@ -51,6 +51,7 @@ behind-slot g area slot image left small within same x c = same.others (extent_b
     below zero small at = absurd (omega arith)
     below (suc zero) small at = absurd (omega arith)
     below (suc (suc a)) small at = absurd (omega arith)
+
     next : (area : ℕ) → area < 2 → extent_block g x + c ≡ log_gate g area slot + 1 → ⊥
     next zero small at = absurd (omega arith)
     next (suc zero) small at = absurd (omega arith)
@@ -101,7 +102,6 @@ prefix-all image d writes stands = record {
 
 module _ (v : StoreView) (d : State) (old new : told.State) (o : IsOpen v d old) (fits : Fits v) (within : v.log.slots < v.named.geometry.slots)
     (run : Leaves (HasLogOrLonger v.log.geometry v.log.area v.log.writes o.groups v.log.pending) old new) (inside : ConfinedTo (InSlot v.log.geometry v.log.area v.log.slots) old new) where
-
   log_at : (left : Image) (groups : List (List Item)) → HasLog v.log.geometry v.log.area v.log.writes groups left → HasLog v.named.geometry v.named.manifest.header.log_area v.log.writes groups left
   log_at left groups has = subst (λ k. HasLog v.named.geometry k v.log.writes groups left) fits.area (subst (λ g. HasLog g v.log.area v.log.writes groups left) fits.geometry has)
 

@@ -1,32 +1,25 @@
 -- An open store from call to call of its device.
-use Rattle.std.proofs.Common.{◌≡◌, ◌≢◌, ◌⊎◌, inl, inr, ⊎_elim, ℕ, zero, suc, ◌+◌, ◌-◌, ◌*◌, ◌/◌, ◌<◌, ◌≤◌, refl, sym, ap, subst, ◌∙◌, Bool, true, false, List, [], ◌∷◌, ◌++◌, length, take, drop, Option, Some, None, Ok, arith, true≢false, append-nil, append_assoc}
+use Rattle.std.proofs.Common.{◌≡◌, ℕ, refl, sym, subst, Bool, List, ◌++◌, length}
 use Rattle.std.specs.Prelude.{IsTrue}
 use Rattle.std.specs.List.{AllByRecursion}
-use Rattle.lt_terms.specs.Bytes.{Image, block_at}
+use Rattle.lt_terms.specs.Bytes.{Image}
 use Rattle.lt_terms.specs.Items.{Item}
-use Rattle.lt_terms.specs.Maps.{after_items}
 use Rattle.lt_device.specs.Image.{SameOutside}
 use Rattle.lt_device.specs.State as told
-use Rattle.lt_device.specs.Moments.{MayLeave, Leaves, ShownNow, IsNear, ConfinedTo, UnsyncedIn}
-use Rattle.lt_device.proofs.Images.{same_outside_joins, same_outside_widens}
-use Rattle.lt_device.proofs.Runs.{begins, joins, weakens, both, confined_keeps}
+use Rattle.lt_device.specs.Moments.{MayLeave, Leaves, ShownNow, ConfinedTo, UnsyncedIn}
+use Rattle.lt_device.proofs.Images.{same_outside_widens}
+use Rattle.lt_device.proofs.Runs.{begins, weakens, confined_keeps}
 use Rattle.lt_device.proofs.Rest.{unsynced_near}
 use Rattle.lt_language.specs.Machine.{State}
-use Rattle.lt_tables.specs.Filter.{is_in}
-use Rattle.lt_format.specs.declared.geometry.Geometry.{Geometry}
-use Rattle.lt_format.specs.Layout.{extent_block, log_gate}
 use Rattle.lt_format.specs.Log.{items_in}
-use Rattle.lt_format.specs.Naming.{Named, InManifest, manifest_of}
-use Rattle.lt_format.specs.Trie.{named, root, node_at, IsTrie}
+use Rattle.lt_format.specs.Trie.{named}
 use Rattle.lt_manifest.specs.Moments.{Names}
 use Rattle.lt_redo.specs.Slots.{HasLog}
-use Rattle.lt_image.specs.Standing.{Stands, is_free_block, after_writes, IsPrefix}
-use Rattle.lt_image.specs.OnPath.{has_only_root}
-use Rattle.lt_store.specs.Building.{InExtents, KeepsFilter}
+use Rattle.lt_image.specs.Standing.{Stands, is_free_block}
+use Rattle.lt_store.specs.Building.{KeepsFilter}
 use Rattle.lt_store.specs.Flushing.{Stays}
-use Rattle.lt_store.specs.Open.{AtRest, IsOpen, IsRootOnly, StoreView, root_pile}
-use Rattle.lt_store.specs.Going.{Survives, Goes}
-use Rattle.lt_store.proofs.SameLaws.{Same, same-refl, same-trans, same-names, same-stands, same-log, same-filters, same-free}
+use Rattle.lt_store.specs.Open.{IsOpen, IsRootOnly, StoreView, root_pile}
+use Rattle.lt_store.proofs.SameLaws.{Same, same-trans, same-names, same-stands, same-log, same-filters, same-free}
 
 -- what an open store has of one image
 pub record IsReady (v : StoreView) (d : State) (groups : List (List Item)) (image : Image) : Type 0 where

@@ -1,13 +1,12 @@
 -- What a flush has before its manifest is committed.
-use Rattle.std.proofs.Common.{◌≡◌, ◌⊎◌, ⊎_elim, ℕ, zero, suc, ◌+◌, ◌-◌, ◌*◌, ◌<◌, ◌≤◌, refl, sym, ap, subst, ◌∙◌, Bool, true, false, not, ◌&&◌, ◌||◌, List, [], ◌∷◌, ◌++◌, length, Some, None, arith, true≢false}
-use Rattle.std.specs.Prelude.{IsTrue, nat_le, nat_lt, ◌==◌, slice_index_or}
+use Rattle.std.proofs.Common.{◌≡◌, ℕ, zero, suc, ◌+◌, ◌<◌, ◌≤◌, refl, subst, Bool, true, false, not, ◌&&◌, ◌||◌, List, [], ◌∷◌, length, Some, arith, true≢false}
+use Rattle.std.specs.Prelude.{nat_le, nat_lt, ◌==◌}
 use Rattle.std.specs.List.{AllByRecursion, AllZip, list_all}
 use Rattle.std.proofs.lemmas.Bool.{and_from, le-leb, lt-ltb, eq-eqb}
-use Rattle.lt_terms.specs.Bytes.{Image, block_at}
+use Rattle.lt_terms.specs.Bytes.{Image}
 use Rattle.lt_terms.specs.Items.{Item}
-use Rattle.lt_device.specs.Image.{SameOutside}
 use Rattle.lt_device.specs.State as told
-use Rattle.lt_device.specs.Moments.{MayLeave, Leaves, IsNear, ConfinedTo}
+use Rattle.lt_device.specs.Moments.{MayLeave, IsNear, ConfinedTo}
 use Rattle.lt_device.proofs.Runs.{joins, begins}
 use Rattle.lt_language.specs.Machine.{State}
 use Rattle.lt_tables.specs.Cut.{cut}
@@ -15,18 +14,13 @@ use Rattle.lt_tables.specs.Filter.{is_in}
 use Rattle.lt_tables.specs.Merge.{newest}
 use Rattle.lt_format.specs.declared.geometry.Geometry.{Geometry}
 use Rattle.lt_format.specs.declared.header.Header.{Header}
-use Rattle.lt_format.specs.Changes.{flush, fits, are_new, shape_fits, new_extents}
-use Rattle.lt_format.specs.Layout.{extent_block, log_gate}
+use Rattle.lt_format.specs.Changes.{flush, fits, are_new}
 use Rattle.lt_format.specs.Naming.{Named, may_commit, log_moves}
-use Rattle.lt_format.specs.Snapshot.{Manifest}
 use Rattle.lt_format.specs.Trie.{Trie, named, all_distinct, all_below}
 use Rattle.lt_redo.specs.LogState.{other_area}
 use Rattle.lt_redo.specs.Slots.{HasLog, InLogArea}
 use Rattle.lt_redo.proofs.AreaLaws.{has_log-local}
 use Rattle.lt_image.specs.After.{PlacedIn}
-use Rattle.lt_image.specs.Standing.{Stands}
-use Rattle.lt_image.specs.Versions.{extent_in}
-use Rattle.lt_tables.specs.Table.{IsPlaced}
 use Rattle.lt_store.specs.Building.{InExtents, KeepsFilter, HasTable}
 use Rattle.lt_store.specs.Flushing.{Stays, AreFree, IsPrepared}
 use Rattle.lt_store.specs.Open.{IsOpen, StoreView}
@@ -61,8 +55,8 @@ unfolding fits
 may-flush n numbers header free distinct some few extents areas writes =
     let trie : Trie = n.manifest.trie in
     let new : are_new 65536 trie numbers ≡ true = and_from (all_distinct numbers && all_below 65536 numbers) (list_all (λ x. not (is_in x (named trie))) numbers)
-        (and_from (all_distinct numbers) (all_below 65536 numbers) distinct (each-in (λ x. nat_lt x 65536) numbers (λ x there. lt-ltb x 65536 (let below = free.below x there in omega arith))))
-        (each-in (λ x. not (is_in x (named trie))) numbers (λ x there. not_false _ (free.unnamed x there))) in
+    (and_from (all_distinct numbers) (all_below 65536 numbers) distinct (each-in (λ x. nat_lt x 65536) numbers (λ x there. lt-ltb x 65536 (let below = free.below x there in omega arith))))
+    (each-in (λ x. not (is_in x (named trie))) numbers (λ x there. not_false _ (free.unnamed x there))) in
     let fit : fits n.geometry.levels trie (flush numbers) ≡ true = and_from (are_new 65536 trie numbers) (nat_le 1 (length numbers)) new (le-leb 1 (length numbers) some) in
     let below : all_below n.manifest.header.extents numbers ≡ true = free-below n numbers n.manifest.header.extents free refl in
     let moves : log_moves (flush numbers) n.manifest.header header ≡ true = and_from (header.log_area + n.manifest.header.log_area == 1) (nat_le n.manifest.header.writes header.writes) (eq-eqb _ 1 areas) (le-leb _ _ writes) in

@@ -1,14 +1,14 @@
 -- Extents that a flush reserves, and the facts in memory after it.
-use Rattle.std.proofs.Common.{◌≡◌, ◌≢◌, ⊎_elim, ℕ, zero, suc, ◌+◌, ◌-◌, ◌<◌, ◌≤◌, ◌^◌, refl, sym, ap, subst, ◌∙◌, List, [], ◌∷◌, ◌++◌, length, get_or, take, Bool, true, false, not, ◌&&◌, ◌||◌, arith, length-append}
-use Rattle.std.specs.Prelude.{◌==◌, IsTrue, All, AllPairs, nat_le, nat_lt}
-use Rattle.std.proofs.lemmas.Bool.{eqb-true, eq-eqb, true≢false, and_from, and_parts, leb-true, ltb-true, le-leb, lt-ltb}
-use Rattle.lt_terms.specs.Items.{Item, total_cost, item_cost}
+use Rattle.std.proofs.Common.{◌≡◌, ◌≢◌, ℕ, zero, suc, ◌+◌, ◌<◌, ◌≤◌, ◌^◌, refl, sym, ap, subst, ◌∙◌, List, [], ◌∷◌, length, get_or, Bool, true, false, not, ◌&&◌, ◌||◌, arith}
+use Rattle.std.specs.Prelude.{◌==◌, nat_le, nat_lt}
+use Rattle.std.proofs.lemmas.Bool.{eqb-true, true≢false, and_from, and_parts, leb-true, ltb-true, lt-ltb}
+use Rattle.lt_terms.specs.Items.{Item, total_cost}
 use Rattle.lt_bucket.proofs.BucketPages.{count_small}
 use Rattle.lt_tables.specs.Filter.{is_in}
 use Rattle.lt_alloc.specs.Extents.{is_free, is_among, Reserves}
 use Rattle.lt_format.specs.declared.header.Header.{Header}
 use Rattle.lt_format.specs.Changes.{flush, after_change}
-use Rattle.lt_format.specs.Log.{group_room, log_fits, log_room}
+use Rattle.lt_format.specs.Log.{log_room}
 use Rattle.lt_format.specs.Naming.{Named, after_commit}
 use Rattle.lt_format.specs.Snapshot.{Manifest}
 use Rattle.lt_format.specs.Trie.{Trie, named, node_cmp, all_distinct}
@@ -18,7 +18,7 @@ use Rattle.lt_format.proofs.Numbers.{times, absent-times, times-absent}
 use Rattle.lt_manifest.specs.Opened as opened
 use Rattle.lt_redo.specs.LogState.{LogState, other_area}
 use Rattle.lt_store.specs.Flushing.{AreFree, flushed_log}
-use Rattle.lt_store.specs.Kept.{IsKept, logged, logged_count}
+use Rattle.lt_store.specs.Kept.{IsKept}
 
 -- ---- numbers in a list
 
@@ -53,7 +53,6 @@ not_true true is = absurd (true≢false (sym is))
 not_true false is = refl
 
 module _ (n : Named) (log : LogState) (memory : List Item) (taken now : List Bool) (filters writes count : ℕ) (numbers : List ℕ) (k : IsKept n log memory taken filters writes) (r : Reserves count taken now [] numbers) where
-
   pub reserved-len : length numbers ≡ count
   reserved-len = ap length r.appended ∙ r.len
 
@@ -90,6 +89,7 @@ module _ (n : Named) (log : LogState) (memory : List Item) (taken now : List Boo
     where
       same : is_among x r.numbers ≡ is_in x numbers
       same = ap (is_in x) (sym r.appended)
+
       decide : (b : Bool) → is_in x numbers ≡ b → ((is_free taken x && not (is_among x r.numbers)) || is_in x numbers) ≡ is_free taken x
       decide true is = rw (same, is) (right (is_free taken x) ∙ sym (was_free x is))
         where
@@ -108,11 +108,14 @@ named-flush trie numbers x rising some = decide (is_in x (named trie)) (is_in x 
   where
     count : times x (named (after_change trie (flush numbers))) ≡ times x (named trie) + times x numbers
     count = flush-times x trie numbers rising some
+
     -- a number that is in a list stands there some times
     some_times : (xs : List ℕ) → is_in x xs ≡ true → times x xs ≡ 0 → ⊥
     some_times xs there none = true≢false (sym there ∙ absent-times x xs none)
+
     no_times : (xs : List ℕ) → is_in x xs ≡ false → times x xs ≡ 0
     no_times xs absent = times-absent x xs absent
+
     decide : (a b c : Bool) → is_in x (named trie) ≡ a → is_in x numbers ≡ b → is_in x (named (after_change trie (flush numbers))) ≡ c → c ≡ (a || b)
     decide true b true one two three = refl
     decide true b false one two three = absurd (some_times (named trie) one (let none = no_times (named (after_change trie (flush numbers))) three in omega (arith, none, count)))
@@ -134,9 +137,9 @@ flushed-kept n m log memory taken now filters writes count numbers header k r so
     let head_writes : m.manifest.header.writes ≡ writes = ap (λ (h : Header). h.writes) head ∙ number in
     let trie : m.manifest.trie ≡ after_change n.manifest.trie (flush numbers) = ap (λ (x : Manifest). x.trie) manifest in
     let few : writes < 2 ^ 64 =
-        let bound = ltb-true _ (2 ^ 64) (and_parts (nat_le (total_cost memory) log_room) (nat_lt (n.manifest.header.writes + length memory) (2 ^ 64)) k.fits).1 in
-        let is = k.number in
-        omega (arith, bound, is) in
+    let bound = ltb-true _ (2 ^ 64) (and_parts (nat_le (total_cost memory) log_room) (nat_lt (n.manifest.header.writes + length memory) (2 ^ 64)) k.fits).1 in
+    let is = k.number in
+    omega (arith, bound, is) in
     let size = k.extents in
     let same = r.same_extents in
     let filled = k.filters_len in

@@ -1,7 +1,6 @@
 -- Images that agree on all that a manifest names, and what they share.
-use Rattle.std.proofs.Common.{◌≡◌, ◌≢◌, ℕ, zero, suc, ◌+◌, ◌-◌, ◌*◌, ◌/◌, ◌<◌, ◌≤◌, refl, sym, ap, subst, ◌∙◌, Bool, true, false, List, [], ◌∷◌, ◌++◌, length, Option, Some, None, Ok, arith, ⊎_elim, true≢false}
-use Rattle.std.specs.Prelude.{IsTrue, slice_index_or}
-use Rattle.std.specs.Bool.{IsFalse}
+use Rattle.std.proofs.Common.{◌≡◌, ℕ, zero, suc, ◌+◌, ◌<◌, ◌≤◌, refl, sym, ap, ◌∙◌, true, false, List, [], ◌∷◌, length, Option, Some, arith, true≢false}
+use Rattle.std.specs.Prelude.{IsTrue}
 use Rattle.std.specs.List.{AllByRecursion}
 use Rattle.lt_terms.specs.Bytes.{Image, block_at}
 use Rattle.lt_terms.specs.Items.{Item}
@@ -10,16 +9,15 @@ use Rattle.lt_language.specs.Machine.{State}
 use Rattle.lt_tables.specs.Filter.{is_in}
 use Rattle.lt_format.specs.declared.geometry.Geometry.{Geometry}
 use Rattle.lt_format.specs.Layout.{extent_block, log_gate}
-use Rattle.lt_format.specs.Naming.{Named, InManifest, manifest_of}
+use Rattle.lt_format.specs.Naming.{Named}
 use Rattle.lt_format.specs.Trie.{named}
 use Rattle.lt_format.proofs.LocalLaws.{manifest-local}
 use Rattle.lt_manifest.specs.Moments.{Names}
 use Rattle.lt_redo.specs.LogState.{other_area}
-use Rattle.lt_redo.specs.Slots.{HasLog, InLogArea, InSlot}
+use Rattle.lt_redo.specs.Slots.{HasLog, InLogArea}
 use Rattle.lt_redo.proofs.AreaLaws.{has_log-local}
 use Rattle.lt_image.specs.After.{SameExtent, SameExtents, SameNamed}
 use Rattle.lt_image.specs.Standing.{Stands, is_free_block}
-use Rattle.lt_image.specs.Versions.{extent_in}
 use Rattle.lt_image.proofs.LocalLaws.{local-stands, not_free-named, fixed_not_free}
 use Rattle.lt_store.specs.Building.{InExtents, KeepsFilter}
 
@@ -77,6 +75,7 @@ within_all P all (x ∷ xs) each sub = (each x (sub x (rw (here x xs) refl)), wi
   where
     here : (x : ℕ) (xs : List ℕ) → is_in x (x ∷ xs) ≡ true
     here x xs = grind arith
+
     later : (y x : ℕ) (xs : List ℕ) → is_in y xs ≡ true → is_in y (x ∷ xs) ≡ true
     later y x xs there = grind arith
 
@@ -104,6 +103,7 @@ same-other m a b area same = record {
     apart zero small n low high from to = omega arith
     apart (suc zero) small n low high from to = omega arith
     apart (suc (suc a)) small n low high from to = omega arith
+
     behind : (area x c : ℕ) → area < 2 → extent_block m.geometry x + c < log_gate m.geometry (other_area area) m.geometry.slots → ⊥
     behind zero x c small to = omega arith
     behind (suc zero) x c small to = omega arith

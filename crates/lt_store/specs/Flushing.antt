@@ -1,5 +1,5 @@
 -- What a flush does to the store in memory.
-use Rattle.std.specs.Prelude.{◌≡◌, ℕ, ◌+◌, ◌<◌, Bool, true, false, List, [], length, IsTrue}
+use Rattle.std.specs.Prelude.{◌≡◌, ℕ, ◌<◌, Bool, true, false, List, [], length}
 use Rattle.std.specs.List.{AllByRecursion}
 use Rattle.lt_device.specs.Moments.{Leaves}
 use Rattle.lt_device.specs.State as told
@@ -9,7 +9,6 @@ use Rattle.lt_alloc.specs.declared.extents.Short.{Short}
 use Rattle.lt_alloc.specs.Extents.{free_count}
 use Rattle.lt_tables.specs.Cut.{cut, table_total}
 use Rattle.lt_tables.specs.Merge.{newest}
-use Rattle.lt_terms.specs.Items.{Item}
 use Rattle.lt_terms.specs.Bytes.{Image}
 use Rattle.lt_format.specs.declared.header.Header.{Header}
 use Rattle.lt_format.specs.Naming.{Named}

@@ -1,6 +1,5 @@
 -- How an open store goes on, from call to call.
-use Rattle.std.specs.Prelude.{◌≡◌, ℕ, ◌≤◌, List, [], ◌∷◌, ◌++◌, length, take, drop}
-use Rattle.lt_terms.specs.Bytes.{Image}
+use Rattle.std.specs.Prelude.{◌≡◌, ℕ, ◌≤◌, List, ◌++◌, length, take, drop}
 use Rattle.lt_terms.specs.Items.{Item}
 use Rattle.lt_device.specs.State as told
 use Rattle.lt_device.specs.Moments.{Leaves}

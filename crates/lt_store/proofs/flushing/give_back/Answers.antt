@@ -1,4 +1,4 @@
-use Rattle.std.proofs.Common.{◌<◌, length, arith}
+use Rattle.std.proofs.Common.{arith}
 use Rattle.lt_store.proofs.GiveLaws.{still-taken}
 use Rattle.lt_store.proofs.NumberLaws.{is_in-at}
 use Rattle.lt_store.proofs.flushing.give_back.Goals as goal

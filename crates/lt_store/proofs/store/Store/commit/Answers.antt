@@ -1,7 +1,5 @@
-use Rattle.std.proofs.Common.{ap, sym, subst, ◌≡◌, [], List}
-use Rattle.lt_terms.specs.Items.{Item}
+use Rattle.std.proofs.Common.{ap, sym, subst, []}
 use Rattle.lt_redo.specs.LogState.{LogState}
-use Rattle.lt_store.specs.Committing.{committed, committed_log}
 use Rattle.lt_store.specs.Going.{Goes}
 use Rattle.lt_store.specs.Open.{StoreView}
 use Rattle.lt_store.specs.View.{view_of}

@@ -1,8 +1,7 @@
-use Rattle.std.proofs.Common.{◌≡◌, ℕ, ◌+◌, ◌-◌, ◌<◌, ◌≤◌, ap, sym, subst, ◌∙◌, [], List, length, true, false, arith}
+use Rattle.std.proofs.Common.{◌≡◌, ℕ, ◌-◌, ◌<◌, ◌≤◌, ap, sym, subst, ◌∙◌, length, true, false, arith}
 use Rattle.lt_terms.specs.Bytes.{Image}
 use Rattle.lt_device.specs.Moments.{MayLeave}
 use Rattle.lt_format.specs.declared.header.Header.{Header}
-use Rattle.lt_format.specs.Naming.{Named}
 use Rattle.lt_format.specs.Snapshot.{Manifest}
 use Rattle.lt_format.specs.Trie.{all_distinct}
 use Rattle.lt_language.specs.Machine.{State}

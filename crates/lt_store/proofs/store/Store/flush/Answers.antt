@@ -1,19 +1,16 @@
-use Rattle.std.proofs.Common.{rules, ◌≡◌, ℕ, ◌+◌, ◌<◌, ◌≤◌, ◌^◌, refl, ap, sym, subst, ◌∙◌, [], List, length, true, false, arith, Fits, w32, vec_len}
-use Rattle.lt_terms.specs.Items.{Item}
+use Rattle.std.proofs.Common.{rules, ◌≡◌, ◌<◌, ◌≤◌, refl, ap, sym, subst, ◌∙◌, [], length, true, false, arith, vec_len}
 use Rattle.lt_image.proofs.CountLaws.{newest-few}
 use Rattle.lt_tables.proofs.NewestLaws.{newest-newest}
 use Rattle.lt_tables.specs.Merge.{newest}
 use Rattle.std.specs.Prelude.{◌||◌}
 use Rattle.lt_alloc.specs.Extents.{Reserves, is_free}
 use Rattle.lt_format.specs.Trie.{all_distinct}
-use Rattle.lt_language.specs.Machine.{State}
 use Rattle.lt_format.specs.declared.header.Header.{Header}
 use Rattle.lt_format.specs.Changes.{flush}
 use Rattle.lt_format.specs.Naming.{after_commit}
 use Rattle.lt_tables.specs.Filter.{is_in}
 use Rattle.lt_store.specs.Flushing.{AreFree, flush_header, flushed_log}
-use Rattle.lt_store.specs.Kept.{IsKept}
-use Rattle.lt_store.specs.Open.{IsOpen, StoreView}
+use Rattle.lt_store.specs.Open.{StoreView}
 use Rattle.lt_store.specs.View.{view_of}
 use Rattle.lt_store.proofs.MomentLaws.{open-alike}
 use Rattle.lt_store.proofs.PartLaws.{newest-some}
@@ -152,6 +149,6 @@ invariant_of-self-in-Err-NoMemory g c =
     record {
       geometry_is = new.geometry_is;
       kept = λ up. kept-along new.manifest new.log new.log new.memory new.memory c.give_back.new.extents c.give_back.new.extents (length new.filters.items) _ new.writes new.writes refl refl refl (sym new_len) refl
-        (back-kept me.manifest new.manifest me.log new.log me.memory new.memory me.extents c.take.new.self c.give_back.new.extents _ (length new.filters.items) me.writes new.writes c.len-2.result c.take.new.into.items kept k' r size
-        (λ x small. subst (λ ns. is_free c.give_back.new.extents x ≡ (is_free c.take.new.self x || is_in x ns)) numbers (subst (λ e. is_free c.give_back.new.extents x ≡ (is_free e x || is_in x c.deref-in-Err-NoMemory.result.now)) taken (c.give_back.ensures.free x (subst (λ e. x < length e) (sym taken) small)))));
+          (back-kept me.manifest new.manifest me.log new.log me.memory new.memory me.extents c.take.new.self c.give_back.new.extents _ (length new.filters.items) me.writes new.writes c.len-2.result c.take.new.into.items kept k' r size
+          (λ x small. subst (λ ns. is_free c.give_back.new.extents x ≡ (is_free c.take.new.self x || is_in x ns)) numbers (subst (λ e. is_free c.give_back.new.extents x ≡ (is_free e x || is_in x c.deref-in-Err-NoMemory.result.now)) taken (c.give_back.ensures.free x (subst (λ e. x < length e) (sym taken) small)))));
     }

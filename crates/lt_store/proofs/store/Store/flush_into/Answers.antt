@@ -1,14 +1,13 @@
-use Rattle.std.proofs.Common.{rules, ◌≡◌, ℕ, ◌+◌, ◌-◌, ◌<◌, ◌≤◌, ap, sym, subst, ◌∙◌, [], List, length, true, Some, map, arith}
+use Rattle.std.proofs.Common.{rules, ◌≡◌, ℕ, ap, sym, subst, ◌∙◌, List, length, Some, map}
 use Rattle.std.specs.List.{AllZip}
 use Rattle.std.proofs.lemmas.List.{with_items_is}
 use Rattle.std.proofs.lemmas.Result.{on_ok_weaker}
 use Rattle.std.specs.Vec.{with_items}
 use Rattle.lt_terms.specs.Bytes.{Image}
 use Rattle.lt_device.specs.Moments.{ConfinedTo}
-use Rattle.lt_language.specs.Machine.{State}
 use Rattle.lt_redo.specs.LogState.{LogState}
 use Rattle.lt_store.specs.Building.{InExtents, HasTable}
-use Rattle.lt_store.specs.Flushing.{AreFree, IsPrepared, Stays}
+use Rattle.lt_store.specs.Flushing.{Stays}
 use Rattle.lt_store.specs.Open.{IsOpen, StoreView}
 use Rattle.lt_store.specs.View.{view_of}
 use Rattle.lt_store.proofs.CommitLaws.{kept-fits}
