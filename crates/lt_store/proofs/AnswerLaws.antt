@@ -1,5 +1,5 @@
 -- What an open store's image holds, and what a get answers from it.
-use Rattle.std.proofs.Common.{◌≡◌, ℕ, ◌+◌, ◌*◌, ◌<◌, ◌≤◌, min, refl, sym, ap, subst, ◌∙◌, List, [], ◌∷◌, ◌++◌, length, take, Bool, true, false, cond, Option, Some, None, Result, Ok, Err, append_assoc, arith, leb-true, ltb-true}
+use Rattle.std.proofs.Common.{◌≡◌, ℕ, ◌+◌, ◌*◌, ◌<◌, ◌≤◌, min, refl, sym, ap, subst, ◌∙◌, List, [], ◌∷◌, ◌++◌, length, take, Bool, true, false, cond, Option, Some, None, Result, Ok, Err, append_assoc, length-append, arith, leb-true, ltb-true}
 use Rattle.std.specs.Prelude.{IsTrue, IsFalse, nat_le, nat_lt}
 use Rattle.std.specs.List.{AllByRecursion, last_or}
 use Rattle.std.specs.Option.{option_or, option_map_or}
@@ -199,6 +199,15 @@ module _ (v : StoreView) (d : State) (device : told.State) (o : IsOpen v d devic
   answered item version old new is h =
       subst (λ value. Answers new value (Ok (value_len version))) (sym value-newest)
       (answers item (newest_of key (pile ++ v.memory)) version old new is (λ w e. newest-among IsSmall key (pile ++ v.memory) w all_items_small e) h)
+
+  -- the number of writes
+  pub all-writes : (state_of v d).writes ≡ v.writes
+  unfolding opened
+  all-writes =
+      let memory : length v.memory ≡ length (items_in o.groups) + length v.log.pending = ap length o.memory ∙ length-append (items_in o.groups) v.log.pending in
+      let durable : v.named.manifest.header.writes + length (items_in o.groups) ≡ d.writes = sound_as.writes in
+      let number = k.number in
+      omega (arith, memory, durable, number)
 
   -- the memory table's answer
   pub answer-memory : (item : Item) (version : Version) (old new : List ℕ) → newest_of key v.memory ≡ Some item → (version ≡ version_of item) × (new ≡ page_with item old) → Answers new (value_at (state_of v d).map key) (Ok (value_len (Some version)))

@@ -7,7 +7,7 @@ use Rattle.lt_device.proofs.Runs.{begins, joins, weakens}
 use Rattle.lt_language.specs.Machine.{State}
 use Rattle.lt_image.specs.Standing.{Stands, IsPrefix, after_writes}
 use Rattle.lt_store.specs.Open.{IsOpen, StoreView}
-use Rattle.lt_store.specs.Going.{Survives, Goes}
+use Rattle.lt_store.specs.Going.{Survives, Goes, appended}
 use Rattle.lt_store.specs.Flushing.{Stays}
 use Rattle.lt_store.proofs.GroupLaws.{after_none, prefix-none}
 
@@ -59,10 +59,6 @@ goes-stays v accepted w x d old mid new g same opened run = record {
 pub breaks : (v : StoreView) (accepted : List Item) (w : StoreView) (d : State) (old mid new : told.State) (g : Goes v accepted w d old mid)
     → Stays (after_writes d (take g.sure (v.log.pending ++ accepted))) mid new → Survives v accepted d old new
 breaks v accepted w d old mid new g run = joins run g.survives (λ left stands. record { count = g.sure; at_least = omega arith; at_most = g.within; stands = stands })
-
--- one write more is pending
-abbrev pub appended : StoreView → Item → StoreView
-appended v item = record v { log = record v.log { pending = v.log.pending ++ item ∷ [] }; memory = v.memory ++ item ∷ []; writes = v.writes + 1 }
 
 pub goes-append : (v : StoreView) (w : StoreView) (item : Item) (d : State) (old new : told.State) → Goes v [] w d old new → Goes v (item ∷ []) (appended w item) d old new
 goes-append v w item d old new g =

@@ -1,3 +1,4 @@
+pub mod ActLaws
 pub mod AnswerLaws
 pub mod BuildLaws
 pub mod CommitLaws
@@ -5,6 +6,7 @@ pub mod CountLaws
 pub mod CutLaws
 pub mod FilterLaws
 pub mod FlushLaws
+pub mod FullLaws
 pub mod GetLaws
 pub mod GiveLaws
 pub mod GoLaws
@@ -20,3 +22,4 @@ pub mod PileLaws
 pub mod PrepareLaws
 pub mod ReserveLaws
 pub mod SameLaws
+pub mod TakeLaws

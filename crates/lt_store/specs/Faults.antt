@@ -2,6 +2,8 @@
 use Rattle.std.specs.Prelude.{◌≡◌}
 use Rattle.lt_htable.specs.declared.faults.BuildFault.{BuildFault}
 use Rattle.lt_htable.specs.declared.faults.BuildFault.TheVariants as builds
+use Rattle.lt_htable.specs.declared.faults.LookFault.{LookFault}
+use Rattle.lt_htable.specs.declared.faults.LookFault.TheVariants as looks
 use Rattle.lt_node.specs.declared.fault.CommitFault.{CommitFault}
 use Rattle.lt_node.specs.declared.fault.CommitFault.TheVariants as commits
 use Rattle.lt_store.specs.declared.faults.WriteFault.{WriteFault}
@@ -15,3 +17,7 @@ IsBuildFault builds.NoMemory fault = fault ≡ writes.NoMemory
 abbrev pub IsCommitFault : CommitFault → WriteFault → Type 0
 IsCommitFault commits.Device fault = fault ≡ writes.Device
 IsCommitFault commits.NoMemory fault = fault ≡ writes.NoMemory
+
+abbrev pub IsLookFault : LookFault → WriteFault → Type 0
+IsLookFault looks.Device fault = fault ≡ writes.Device
+IsLookFault (looks.Damaged block) fault = fault ≡ writes.Damaged block

@@ -1,5 +1,5 @@
 -- How an open store goes on, from call to call.
-use Rattle.std.specs.Prelude.{◌≡◌, ℕ, ◌≤◌, List, ◌++◌, length, take, drop}
+use Rattle.std.specs.Prelude.{◌≡◌, ℕ, ◌+◌, ◌≤◌, List, [], ◌∷◌, ◌++◌, length, take, drop}
 use Rattle.lt_terms.specs.Items.{Item}
 use Rattle.lt_device.specs.State as told
 use Rattle.lt_device.specs.Moments.{Leaves}
@@ -18,3 +18,7 @@ pub record Goes (v : StoreView) (accepted : List Item) (w : StoreView) (durable 
   pub pending : w.log.pending ≡ drop sure (v.log.pending ++ accepted)
   pub opened : IsOpen w (after_writes durable (take sure (v.log.pending ++ accepted))) new
   pub survives : Survives v accepted durable old new
+
+-- the store with one write more, which is pending
+abbrev pub appended : StoreView → Item → StoreView
+appended v item = record v { log = record v.log { pending = v.log.pending ++ item ∷ [] }; memory = v.memory ++ item ∷ []; writes = v.writes + 1 }

@@ -1,3 +1,4 @@
+pub mod Acting
 pub mod Building
 pub mod Committing
 pub mod Faults
@@ -5,7 +6,8 @@ pub mod Flushing
 pub mod Getting
 pub mod Going
 pub mod Kept
-pub mod Open
-pub mod View
-pub mod Reading
 pub mod Making
+pub mod Open
+pub mod Reading
+pub mod Taking
+pub mod View

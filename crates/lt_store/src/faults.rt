@@ -1,6 +1,6 @@
 //! Why a call of a store was refused.
 
-use lt_htable::BuildFault;
+use lt_htable::{BuildFault, LookFault};
 use lt_node::CommitFault;
 use lt_page::{Failed, NoMemory};
 use std::alloc::AllocError;
@@ -70,6 +70,19 @@ impl From<Failed> for WriteFault {
 
     fn from(_: Failed) -> WriteFault {
         WriteFault::Device
+    }
+}
+
+impl From<LookFault> for WriteFault {
+    ghost use Rattle.lt_store.specs.Faults.{IsLookFault};
+
+    ghost from_gives = { IsLookFault };
+
+    fn from(fault: LookFault) -> WriteFault {
+        match fault {
+            LookFault::Device => WriteFault::Device,
+            LookFault::Damaged(block) => WriteFault::Damaged(block),
+        }
     }
 }
 

@@ -55,7 +55,7 @@ impl Store {
         ensures up { (self.new.is_up ≡ false) ↔ IsErrOf result WriteFault.Device }
         ensures writes { self.new.writes ≡ self.old.writes }
         ensures undamaged { (b : ℕ) → IsErrOf result (WriteFault.Damaged b) → ⊥ }
-        ensures blocks { IsOk result → blocks_of (view_of self.new) ≡ blocks_of (view_of self.old) }
+        ensures blocks { self.new.is_up ≡ true → blocks_of (view_of self.new) ≡ blocks_of (view_of self.old) }
         ensures size { D.blocks device.new ≡ D.blocks device.old }
         ensures count { D.reads device.new ≡ D.reads device.old }
         ensures later { D.faults device.old ≤ D.faults device.new }

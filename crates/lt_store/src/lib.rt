@@ -1,6 +1,7 @@
 //! The store: puts and deletes into a log and a memory table, tables of the root, and gets.
 #![tactic(auto)]
 
+mod acting;
 mod building;
 mod committing;
 mod counts;
@@ -11,8 +12,14 @@ mod getting;
 mod making;
 mod opening;
 mod store;
+mod writing;
 
+pub use acting::{EventView, Outcome};
 pub use counts::Stat;
 pub use faults::{InitFault, WriteFault};
 pub use making::init;
 pub use store::Store;
+pub use writing::Taken;
+
+#[cfg(test)]
+mod tests;

@@ -1,0 +1,88 @@
+-- What an event comes to.
+use Rattle.std.proofs.Common.{◌≡◌, ℕ, ◌+◌, ◌*◌, ◌<◌, ◌≤◌, refl, sym, ap, subst, ◌∙◌, List, [], ◌∷◌, length, Bool, true, false, Option, Some, None, Result, Ok, Err, arith, true≢false}
+use Rattle.std.specs.Prelude.{◌↔◌, ◌≢◌, IsErrOf, OnErr}
+use Rattle.lt_device.specs.State as told
+use Rattle.lt_terms.specs.Items.{Item}
+use Rattle.lt_language.specs.Commands as commands
+use Rattle.lt_language.specs.Machine.{State, most_writes, put_of, delete_of}
+use Rattle.lt_image.specs.Standing.{after_writes}
+use Rattle.lt_store.specs.declared.acting.Outcome.{Outcome}
+use Rattle.lt_store.specs.declared.acting.Outcome.TheVariants as outcomes
+use Rattle.lt_store.specs.declared.counts.Stat.{Stat}
+use Rattle.lt_store.specs.declared.faults.WriteFault.{WriteFault}
+use Rattle.lt_store.specs.declared.faults.WriteFault.TheVariants.{Device, Damaged, NoMemory}
+use Rattle.lt_store.specs.declared.writing.Taken.{Taken}
+use Rattle.lt_store.specs.declared.writing.Taken.TheVariants as taken
+use Rattle.lt_store.specs.Acting.{IsStep, reply_of}
+use Rattle.lt_store.specs.Going.{Goes, Survives}
+use Rattle.lt_store.specs.Open.{StoreView, IsOpen}
+use Rattle.lt_store.specs.Taking.{accepted_by}
+use Rattle.lt_store.proofs.GoLaws.{goes-none}
+use Rattle.lt_store.proofs.GroupLaws.{after_none}
+
+-- ---- calls that ask
+
+pub asks-goes : (v w : StoreView) (d : State) (s t : told.State) → w ≡ v → t ≡ s → IsOpen v d s → Goes v [] w d s t
+asks-goes v w d s t same kept o = subst (λ x. Goes v [] x d s t) (sym same) (subst (λ e. Goes v [] v d s e) (sym kept) (goes-none v d s o))
+
+pub stat-step : (e : ℕ) (s : State) (stat : Stat) (page : List ℕ) → stat.writes ≡ s.writes → stat.tables + stat.free ≤ e → IsStep e s (Some commands.stat) (reply_of (outcomes.Stat stat) page) (after_writes s [])
+stat-step e s stat page number within = ((number, within), after_none s)
+
+-- ---- writes
+
+module _ (e n : ℕ) (s : State) (answer : Taken) (number : s.writes ≡ n) (limit : (answer ≡ taken.Limit) ↔ (n ≡ most_writes)) (full : (needed free : ℕ) → answer ≡ taken.Full needed free → (free < needed) × (e < 2 * n)) where
+  below : (answer ≡ taken.Limit → ⊥) → s.writes ≢ most_writes
+  below other at = other (limit.1 (sym number ∙ at))
+
+  room : (needed free : ℕ) → answer ≡ taken.Full needed free → (free < needed) × (e < 2 * s.writes)
+  room needed free is = let short = full needed free is in (short.0, subst (λ m. e < 2 * m) (sym number) short.1)
+
+  pub put-step : (key value page : List ℕ) → IsStep e s (Some (commands.put key value)) (reply_of (outcomes.Taken answer) page) (after_writes s (accepted_by (put_of key value) answer))
+  put-step key value page = by_answer answer refl
+    where
+      by_answer : (t : Taken) → answer ≡ t → IsStep e s (Some (commands.put key value)) (reply_of (outcomes.Taken t) page) (after_writes s (accepted_by (put_of key value) t))
+      by_answer taken.Ok is = (below (λ h. cc), refl)
+      by_answer (taken.Full needed free) is = let short = room needed free is in (below (λ h. cc), short.0, short.1, after_none s)
+      by_answer taken.Limit is = (number ∙ limit.0 is, after_none s)
+
+  pub delete-step : (key page : List ℕ) → IsStep e s (Some (commands.delete key)) (reply_of (outcomes.Taken answer) page) (after_writes s (accepted_by (delete_of key) answer))
+  delete-step key page = by_answer answer refl
+    where
+      by_answer : (t : Taken) → answer ≡ t → IsStep e s (Some (commands.delete key)) (reply_of (outcomes.Taken t) page) (after_writes s (accepted_by (delete_of key) t))
+      by_answer taken.Ok is = (below (λ h. cc), refl)
+      by_answer (taken.Full needed free) is = let short = room needed free is in (below (λ h. cc), short.0, short.1, after_none s)
+      by_answer taken.Limit is = (number ∙ limit.0 is, after_none s)
+
+-- a write that was refused, with the store up or not
+module _ (up : Bool) (result : Result Taken WriteFault) (fault : WriteFault) (was : result ≡ Err fault) (downs : (up ≡ false) ↔ IsErrOf result Device) (undamaged : (b : ℕ) → IsErrOf result (Damaged b) → ⊥) where
+  pub refused-goes : (G : Type 0) → (IsErrOf result NoMemory → G) → up ≡ true → G
+  refused-goes G refused is = by_fault fault was
+    where
+      by_fault : (f : WriteFault) → result ≡ Err f → G
+      by_fault Device w = absurd (true≢false (sym is ∙ downs.1 w))
+      by_fault (Damaged b) w = absurd (undamaged b w)
+      by_fault NoMemory w = refused w
+
+  pub refused-survives : (S : Type 0) → (IsErrOf result Device → S) → (IsErrOf result NoMemory → S) → S
+  refused-survives S broken refused = by_fault fault was
+    where
+      by_fault : (f : WriteFault) → result ≡ Err f → S
+      by_fault Device w = broken w
+      by_fault (Damaged b) w = absurd (undamaged b w)
+      by_fault NoMemory w = refused w
+
+-- ---- answers within others
+
+pub on_err : {T E Q : Type 0} (r : Result T E) → Q → OnErr r Q
+on_err (Ok x) q = tt
+on_err (Err e) q = q
+
+pub same-answer : (a b : Taken) → ◌≡◌ {A = Result Taken WriteFault} (Ok a) (Ok b) → a ≡ b
+same-answer a b h = cc
+
+pub same-taken : (a b : Taken) → ◌≡◌ {A = Result Outcome WriteFault} (Ok (outcomes.Taken a)) (Ok (outcomes.Taken b)) → a ≡ b
+same-taken a b h = cc
+
+-- what a write says of its limit
+pub limits : (a : Taken) (P : Type 0) → (◌≡◌ {A = Result Taken WriteFault} (Ok a) (Ok taken.Limit)) ↔ P → (a ≡ taken.Limit) ↔ P
+limits a P h = (λ is. h.0 (ap Ok is), λ p. same-answer a taken.Limit (h.1 p))

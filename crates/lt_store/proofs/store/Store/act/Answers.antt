@@ -1,0 +1,86 @@
+use Rattle.std.proofs.Common.{◌≡◌, ℕ, ◌+◌, ◌≤◌, sym, ap, subst, ◌∙◌, [], Ok, Some, arith, vec_len}
+use Rattle.lt_language.specs.Machine.{put_of, delete_of}
+use Rattle.lt_store.specs.declared.counts.Stat.{Stat}
+use Rattle.lt_store.specs.declared.writing.Taken.TheVariants as taken
+use Rattle.lt_store.specs.Going.{Goes, Survives}
+use Rattle.lt_store.specs.Open.{state_of}
+use Rattle.lt_store.specs.View.{view_of}
+use Rattle.lt_store.proofs.ActLaws.{asks-goes, stat-step, put-step, delete-step, refused-goes, refused-survives, on_err, same-taken, limits}
+use Rattle.lt_store.proofs.AnswerLaws.{all-writes}
+use Rattle.lt_store.proofs.GoLaws.{goes-none}
+use Rattle.lt_store.proofs.store.Store.act.Goals as goal
+
+-- ---- a put
+
+pub returns-in_err-put-in-Put-clause-goes_on : goal.returns-in_err-put-in-Put-clause-goes_on
+returns-in_err-put-in-Put-clause-goes_on g c = on_err c.from_residual.result (λ is durable opened.
+    refused-goes c.put.new.self.is_up c.put.result c.in_err-put-in-Put.field-0.0 c.in_err-put-in-Put.was c.put.ensures.up c.put.ensures.undamaged _ (λ fault. c.put.ensures.refused fault durable opened) is)
+
+pub returns-in_err-put-in-Put-clause-broken : goal.returns-in_err-put-in-Put-clause-broken
+returns-in_err-put-in-Put-clause-broken g c = on_err c.from_residual.result (λ durable opened.
+    refused-survives c.put.new.self.is_up c.put.result c.in_err-put-in-Put.field-0.0 c.in_err-put-in-Put.was c.put.ensures.up c.put.ensures.undamaged _ (λ fault. c.put.ensures.broken fault durable opened) (λ fault. (c.put.ensures.refused fault durable opened).survives))
+
+pub returns-in_ok-put-in-Put-clause-step : goal.returns-in_ok-put-in-Put-clause-step
+returns-in_ok-put-in-Put-clause-step g c = λ durable opened.
+    let s = c.args.self.now in
+    let answer = c.in_ok-put-in-Put in
+    let number = all-writes (view_of s) durable (g.D.Device.state c.args.device.now) opened (vec_len s.filters) (s.kept c.requires.up) c.in-Put.key.now in
+    rw c.in-Put.is
+    (put-step s.manifest.manifest.header.extents s.writes (state_of (view_of s) durable) answer.field-0 number (limits answer.field-0 _ answer.ensures.limit)
+    (λ needed free is. ((answer.ensures.full needed free (ap Ok is)).short, (answer.ensures.full_images needed free (ap Ok is) durable opened).1)) c.in-Put.key.now c.in-Put.value.now c.args.out.now)
+
+pub returns-in_ok-put-in-Put-clause-full_images : goal.returns-in_ok-put-in-Put-clause-full_images
+returns-in_ok-put-in-Put-clause-full_images g c = λ needed free is durable opened.
+    let answer = c.in_ok-put-in-Put in
+    (answer.ensures.full_images needed free (ap Ok (same-taken answer.field-0 (taken.Full needed free) is)) durable opened).0
+
+-- ---- a delete
+
+pub returns-in_err-delete-in-Delete-clause-goes_on : goal.returns-in_err-delete-in-Delete-clause-goes_on
+returns-in_err-delete-in-Delete-clause-goes_on g c = on_err c.from_residual-in_err-delete-in-Delete.result (λ is durable opened.
+    refused-goes c.delete.new.self.is_up c.delete.result c.in_err-delete-in-Delete.field-0.0 c.in_err-delete-in-Delete.was c.delete.ensures.up c.delete.ensures.undamaged _ (λ fault. c.delete.ensures.refused fault durable opened) is)
+
+pub returns-in_err-delete-in-Delete-clause-broken : goal.returns-in_err-delete-in-Delete-clause-broken
+returns-in_err-delete-in-Delete-clause-broken g c = on_err c.from_residual-in_err-delete-in-Delete.result (λ durable opened.
+    refused-survives c.delete.new.self.is_up c.delete.result c.in_err-delete-in-Delete.field-0.0 c.in_err-delete-in-Delete.was c.delete.ensures.up c.delete.ensures.undamaged _ (λ fault. c.delete.ensures.broken fault durable opened) (λ fault. (c.delete.ensures.refused fault durable opened).survives))
+
+pub returns-in_ok-delete-in-Delete-clause-step : goal.returns-in_ok-delete-in-Delete-clause-step
+returns-in_ok-delete-in-Delete-clause-step g c = λ durable opened.
+    let s = c.args.self.now in
+    let answer = c.in_ok-delete-in-Delete in
+    let number = all-writes (view_of s) durable (g.D.Device.state c.args.device.now) opened (vec_len s.filters) (s.kept c.requires.up) c.in-Delete.key.now in
+    rw c.in-Delete.is
+    (delete-step s.manifest.manifest.header.extents s.writes (state_of (view_of s) durable) answer.field-0 number (limits answer.field-0 _ answer.ensures.limit)
+    (λ needed free is. ((answer.ensures.full needed free (ap Ok is)).short, (answer.ensures.full_images needed free (ap Ok is) durable opened).1)) c.in-Delete.key.now c.args.out.now)
+
+pub returns-in_ok-delete-in-Delete-clause-full_images : goal.returns-in_ok-delete-in-Delete-clause-full_images
+returns-in_ok-delete-in-Delete-clause-full_images g c = λ needed free is durable opened.
+    let answer = c.in_ok-delete-in-Delete in
+    (answer.ensures.full_images needed free (ap Ok (same-taken answer.field-0 (taken.Full needed free) is)) durable opened).0
+
+-- ---- a get
+
+pub returns-in_err-len-in-Get-clause-goes_on : goal.returns-in_err-len-in-Get-clause-goes_on
+returns-in_err-len-in-Get-clause-goes_on g c = on_err c.from_residual-in_err-len-in-Get.result (λ is durable opened.
+    asks-goes (view_of c.args.self.now) (view_of c.get.new.self) durable _ _ c.get.ensures.unchanged c.get.ensures.state opened)
+
+pub returns-in_err-len-in-Get-clause-broken : goal.returns-in_err-len-in-Get-clause-broken
+returns-in_err-len-in-Get-clause-broken g c = on_err c.from_residual-in_err-len-in-Get.result (λ durable opened.
+    (asks-goes (view_of c.args.self.now) (view_of c.get.new.self) durable _ _ c.get.ensures.unchanged c.get.ensures.state opened).survives)
+
+pub returns-in-Some-clause-goes : goal.returns-in-Some-clause-goes
+returns-in-Some-clause-goes g c = λ durable opened. asks-goes (view_of c.args.self.now) (view_of c.get.new.self) durable _ _ c.get.ensures.unchanged c.get.ensures.state opened
+
+pub returns-in-None-clause-goes : goal.returns-in-None-clause-goes
+returns-in-None-clause-goes g c = λ durable opened. asks-goes (view_of c.args.self.now) (view_of c.get.new.self) durable _ _ c.get.ensures.unchanged c.get.ensures.state opened
+
+-- ---- a stat
+
+pub returns-in-Stat-clause-step : goal.returns-in-Stat-clause-step
+returns-in-Stat-clause-step g c = λ durable opened.
+    let s = c.args.self.now in
+    let number = all-writes (view_of s) durable (g.D.Device.state c.args.device.now) opened (vec_len s.filters) (s.kept c.requires.up) [] in
+    rw c.in-Stat.is (stat-step s.manifest.manifest.header.extents (state_of (view_of s) durable) c.stat.result c.args.out.now (ap (λ (t : Stat). t.writes) c.stat.ensures.stat ∙ sym number) c.stat.ensures.within)
+
+pub returns-in-Stat-clause-goes : goal.returns-in-Stat-clause-goes
+returns-in-Stat-clause-goes g c = λ durable opened. goes-none (view_of c.args.self.now) durable _ opened

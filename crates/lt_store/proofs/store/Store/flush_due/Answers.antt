@@ -1,0 +1,24 @@
+use Rattle.std.proofs.Common.{rules, ◌≡◌, ◌<◌, ap, sym, subst, arith, IsTrue}
+use Rattle.lt_alloc.specs.Extents.{free_count}
+use Rattle.lt_device.specs.Moments.{MayLeave}
+use Rattle.lt_tables.specs.Cut.{table_total}
+use Rattle.lt_tables.specs.Merge.{newest}
+use Rattle.lt_store.specs.Open.{StoreView}
+use Rattle.lt_store.specs.Taking.{is_due, IsFullImage}
+use Rattle.lt_store.specs.View.{view_of}
+use Rattle.lt_store.proofs.FullLaws.{full-image, few-extents}
+use Rattle.lt_store.proofs.store.Store.flush_due.Goals as goal
+
+pub returns-clause-full_images : goal.returns-clause-full_images
+returns-clause-full_images g c = λ short is d o.
+    let v : StoreView = view_of c.args.self.now in
+    let kept = c.args.self.now.kept c.requires.up in
+    let due : IsTrue (is_due v) = search rules in
+    let (lacks, stays, same) = c.flush.ensures.short short is in
+    let state : g.D.Device.state c.flush.new.device ≡ g.D.Device.state c.args.device.now = ap g.D.Device.state same in
+    let needed = lacks.needed in
+    let free = lacks.free in
+    let few = lacks.few in
+    ((λ left may. subst (λ n. IsFullImage left n short.free) (sym needed) (subst (λ f. IsFullImage left (table_total (newest v.memory)) f) (sym free)
+    (full-image v d (g.D.Device.state c.args.device.now) _ o kept due left (subst (λ s. MayLeave s left) state may)))),
+    few-extents v d (g.D.Device.state c.args.device.now) _ o kept (omega (arith, needed, free, few)))

@@ -1,0 +1,58 @@
+use Rattle.std.proofs.Common.{rules, ◌≡◌, ◌+◌, ◌*◌, ◌<◌, ℕ, refl, ap, sym, subst, [], ◌∷◌, Ok, Err, Some, IsErrOf, arith}
+use Rattle.lt_device.specs.Moments.{MayLeave}
+use Rattle.lt_item.specs.Views.{item_of}
+use Rattle.lt_terms.specs.Bytes.{Image}
+use Rattle.lt_store.specs.declared.faults.WriteFault.TheVariants as faults
+use Rattle.lt_store.specs.Going.{Goes}
+use Rattle.lt_store.specs.Open.{StoreView}
+use Rattle.lt_store.specs.Taking.{IsFullImage}
+use Rattle.lt_store.specs.View.{view_of}
+use Rattle.lt_store.proofs.GoLaws.{goes-none, goes-stays, goes-append, breaks}
+use Rattle.lt_store.proofs.TakeLaws.{full-alike}
+use Rattle.lt_store.proofs.store.Store.write.Goals as goal
+
+pub returns-then-self-clause-taken : goal.returns-then-self-clause-taken
+returns-then-self-clause-taken g c = λ d o. goes-none (view_of c.args.self.now) d (g.D.Device.state c.args.device.now) o
+
+pub returns-in_err-flush_due-clause-refused : goal.returns-in_err-flush_due-clause-refused
+returns-in_err-flush_due-clause-refused g c = λ none d o.
+    let v : StoreView = view_of c.args.self.now in
+    let w : StoreView = view_of c.commit_full.new.self in
+    let went = c.in_ok-commit_full.ensures.goes d o in
+    let was : IsErrOf c.from_residual-in_err-flush_due.result faults.NoMemory → IsErrOf c.flush_due.result faults.NoMemory = search rules in
+    goes-stays v [] w (view_of c.flush_due.new.self) d (g.D.Device.state c.args.device.now) (g.D.Device.state c.commit_full.new.device) (g.D.Device.state c.flush_due.new.device) went
+    (c.flush_due.ensures.pending_again (was none)) (c.flush_due.ensures.opened_again (was none) _ went.opened) (c.flush_due.ensures.stays _ went.opened)
+
+pub returns-in_err-flush_due-clause-broken : goal.returns-in_err-flush_due-clause-broken
+returns-in_err-flush_due-clause-broken g c = λ failed d o.
+    let v : StoreView = view_of c.args.self.now in
+    let went = c.in_ok-commit_full.ensures.goes d o in
+    breaks v [] (view_of c.commit_full.new.self) d (g.D.Device.state c.args.device.now) (g.D.Device.state c.commit_full.new.device) (g.D.Device.state c.flush_due.new.device) went (c.flush_due.ensures.stays _ went.opened)
+
+pub returns-in-None-clause-taken : goal.returns-in-None-clause-taken
+returns-in-None-clause-taken g c = λ d o.
+    let v : StoreView = view_of c.args.self.now in
+    let x : StoreView = view_of c.flush_due.new.self in
+    let went = c.in_ok-commit_full.ensures.goes d o in
+    let goes = goes-stays v [] (view_of c.commit_full.new.self) x d (g.D.Device.state c.args.device.now) (g.D.Device.state c.commit_full.new.device) (g.D.Device.state c.flush_due.new.device) went
+        (c.in_ok-flush_due.ensures.pending (search rules)) (c.in_ok-flush_due.ensures.opened (search rules) _ went.opened) (c.in_ok-flush_due.ensures.stays _ went.opened) in
+    subst (λ (z : StoreView). Goes v (item_of c.args.item.now ∷ []) z d (g.D.Device.state c.args.device.now) (g.D.Device.state c.flush_due.new.device)) (sym c.append.ensures)
+    (goes-append v x (item_of c.args.item.now) d (g.D.Device.state c.args.device.now) (g.D.Device.state c.flush_due.new.device) goes)
+
+pub returns-in-Some-clause-taken : goal.returns-in-Some-clause-taken
+returns-in-Some-clause-taken g c = λ d o.
+    let v : StoreView = view_of c.args.self.now in
+    let went = c.in_ok-commit_full.ensures.goes d o in
+    goes-stays v [] (view_of c.commit_full.new.self) (view_of c.flush_due.new.self) d (g.D.Device.state c.args.device.now) (g.D.Device.state c.commit_full.new.device) (g.D.Device.state c.flush_due.new.device) went
+    (c.in_ok-flush_due.ensures.pending (search rules)) (c.in_ok-flush_due.ensures.opened (search rules) _ went.opened) (c.in_ok-flush_due.ensures.stays _ went.opened)
+
+pub returns-in-Some-clause-full_images : goal.returns-in-Some-clause-full_images
+returns-in-Some-clause-full_images g c = λ needed free same d o.
+    let v : StoreView = view_of c.args.self.now in
+    let w : StoreView = view_of c.commit_full.new.self in
+    let went = c.in_ok-commit_full.ensures.goes d o in
+    let rest : w ≡ record v { log = w.log } = c.in_ok-commit_full.ensures.rest in
+    let extents : w.named.manifest.header.extents ≡ v.named.manifest.header.extents = ap (λ (z : StoreView). z.named.manifest.header.extents) rest in
+    let writes : w.writes ≡ v.writes = ap (λ (z : StoreView). z.writes) rest in
+    let (images, few) = c.in_ok-flush_due.ensures.full_images c.in-Some.field-0 (ap Ok c.in-Some.is) _ went.opened in
+    ((λ left may. full-alike (IsFullImage left) c.in-Some.field-0.needed c.in-Some.field-0.free needed free same (images left may)), omega (arith, few, extents, writes))

@@ -1,0 +1,74 @@
+-- Events of a store, and the steps of the map machine that they are.
+use Rattle.std.specs.Prelude.{◌≡◌, ℕ, Bool, true, false, List, [], take, Option, Some, None, Result, Ok, Err, IsTrue}
+use Rattle.lt_terms.specs.Items.{Item, is_key, is_valid}
+use Rattle.lt_language.specs.Commands as commands
+use Rattle.lt_language.specs.Commands.{Command}
+use Rattle.lt_language.specs.Machine.{State, Step, put_of, delete_of}
+use Rattle.lt_language.specs.Replies as replies
+use Rattle.lt_language.specs.Replies.{Reply}
+use Rattle.lt_store.specs.declared.acting.EventView.{EventView}
+use Rattle.lt_store.specs.declared.acting.EventView.TheVariants as events
+use Rattle.lt_store.specs.declared.acting.Outcome.{Outcome}
+use Rattle.lt_store.specs.declared.acting.Outcome.TheVariants as outcomes
+use Rattle.lt_store.specs.declared.faults.WriteFault.{WriteFault}
+use Rattle.lt_store.specs.declared.writing.Taken.TheVariants as taken
+use Rattle.lt_store.specs.Getting.{KeepsRest, asked}
+use Rattle.lt_store.specs.Open.{StoreView}
+use Rattle.lt_store.specs.Taking.{accepted_by}
+
+-- the command that an event is; a commit is none
+abbrev pub command_of : EventView → Option Command
+command_of (events.Put key value) = Some (commands.put key.now value.now)
+command_of (events.Delete key) = Some (commands.delete key.now)
+command_of (events.Get key) = Some (commands.get key.now)
+command_of events.Stat = Some commands.stat
+command_of events.Commit = None
+
+-- the item that an event writes
+abbrev pub write_of : EventView → Option Item
+write_of (events.Put key value) = Some (put_of key.now value.now)
+write_of (events.Delete key) = Some (delete_of key.now)
+write_of event = None
+
+-- the condition of an event: a valid item where it writes one
+abbrev pub MayAct : EventView → Type 0
+MayAct (events.Put key value) = IsTrue (is_valid (put_of key.now value.now))
+MayAct (events.Delete key) = IsTrue (is_key key.now)
+MayAct event = Unit {0}
+
+-- a get or a stat, which change nothing
+abbrev pub only_asks : EventView → Bool
+only_asks (events.Get key) = true
+only_asks events.Stat = true
+only_asks event = false
+
+-- the item that was taken with this outcome
+abbrev pub accepted_as : Outcome → Option Item → List Item
+accepted_as (outcomes.Taken answer) (Some item) = accepted_by item answer
+accepted_as outcome item = []
+
+-- the reply that an outcome is; a value stands at the front of the page
+abbrev pub reply_of : Outcome → List ℕ → Option Reply
+reply_of (outcomes.Taken taken.Ok) page = Some replies.ok
+reply_of (outcomes.Taken (taken.Full needed free)) page = Some (replies.full needed free)
+reply_of (outcomes.Taken taken.Limit) page = Some replies.limit
+reply_of (outcomes.Value n) page = Some (replies.value (take n page))
+reply_of outcomes.Missing page = Some replies.none
+reply_of (outcomes.Stat s) page = Some (replies.stat s.writes s.reads s.tables s.free)
+reply_of outcomes.Committed page = None
+
+-- a command with its reply is a step of the map machine in a store of e extents; a commit has no reply and leaves the state
+abbrev pub IsStep : ℕ → State → Option Command → Option Reply → State → Type 0
+IsStep e s (Some command) (Some reply) s' = Step e s command reply s'
+IsStep e s None None s' = s' ≡ s
+IsStep e s command reply s' = ⊥
+
+-- the page stays as it is, but for a value
+abbrev pub KeepsOut : Result Outcome WriteFault → List ℕ → List ℕ → Type 0
+KeepsOut (Ok (outcomes.Value n)) old new = KeepsRest (Some n) old new
+KeepsOut result old new = new ≡ old
+
+-- how many tables an event asks at most
+abbrev pub asked_by : StoreView → EventView → ℕ
+asked_by v (events.Get key) = asked v key.now
+asked_by v event = 0

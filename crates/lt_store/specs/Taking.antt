@@ -1,0 +1,38 @@
+-- What a write that was taken leaves, and when one is refused for want of extents.
+use Rattle.std.specs.Prelude.{◌≡◌, ℕ, ◌<◌, Bool, ◌&&◌, ◌||◌, List, [], ◌∷◌, Ok, IsTrue, nat_lt, ◌==◌, length}
+use Rattle.lt_terms.specs.Bytes.{Image}
+use Rattle.lt_terms.specs.Items.{Item, total_cost}
+use Rattle.lt_tables.specs.Cut.{table_total}
+use Rattle.lt_tables.specs.Merge.{newest}
+use Rattle.lt_alloc.specs.Extents.{free_count}
+use Rattle.lt_image.specs.Opening.{Opened, open_image}
+use Rattle.lt_image.specs.Pressure.{flush_tables, is_flush_due}
+use Rattle.lt_image.specs.Versions.{free_extents}
+use Rattle.lt_store.specs.declared.writing.Taken.{Taken}
+use Rattle.lt_store.specs.declared.writing.Taken.TheVariants as taken
+use Rattle.lt_store.specs.Open.{StoreView}
+
+-- the write, where it was taken
+abbrev pub accepted_by : Item → Taken → List Item
+accepted_by item taken.Ok = item ∷ []
+accepted_by item (taken.Full needed free) = []
+accepted_by item taken.Limit = []
+
+-- the open group is empty, and no slot is left for it or the items of the log cost too much
+abbrev pub is_due : StoreView → Bool
+is_due v = length v.log.pending == 0 && (v.log.slots == v.named.geometry.slots || nat_lt 200000 (total_cost v.memory))
+
+-- a flush is due, and gives more tables than extents are free
+pub record IsFull (v : StoreView) (needed free : ℕ) : Type 0 where
+  pub due : IsTrue (is_due v)
+  pub needs : needed ≡ table_total (newest v.memory)
+  pub has : free ≡ free_count v.taken
+  pub short : free < needed
+
+-- the same of an image
+pub record IsFullImage (image : Image) (needed free : ℕ) : Type 0 where
+  pub opened : Opened
+  pub opens : open_image image ≡ Ok opened
+  pub due : IsTrue (is_flush_due opened)
+  pub needs : flush_tables opened ≡ needed
+  pub has : free_extents opened.named ≡ free

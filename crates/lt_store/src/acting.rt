@@ -1,0 +1,125 @@
+//! The calls of a store as events.
+
+ghost use Rattle.std.specs.Prelude.{◌≡◌, ◌≢◌, ◌↔◌, ℕ, ◌+◌, ◌*◌, ◌<◌, ◌≤◌, true, false, [], Ok, Some, IfOk, IsErrOf, IsSome, IsTrue, OnErr, OnOk, length};
+ghost use Rattle.lt_terms.specs.Bytes.{Image};
+ghost use Rattle.lt_terms.specs.Causes.{Rose};
+ghost use Rattle.lt_terms.specs.Items as terms;
+ghost use Rattle.lt_terms.specs.Items.{item_cost, total_cost};
+ghost use Rattle.lt_alloc.specs.Extents.{free_count};
+ghost use Rattle.lt_device.specs.Moments.{MayLeave};
+ghost use Rattle.lt_device.specs.Reads.{CountsAtMost};
+ghost use Rattle.lt_format.specs.Log.{group_room};
+ghost use Rattle.lt_format.specs.Trie.{table_total};
+ghost use Rattle.lt_htable.specs.Reading.{IsNoBucket};
+ghost use Rattle.lt_image.specs.Standing.{after_writes};
+ghost use Rattle.lt_language.specs.Machine.{State, most_writes};
+ghost use Rattle.lt_store.specs.Acting.{IsStep, KeepsOut, MayAct, accepted_as, asked_by, command_of, only_asks, reply_of, write_of};
+ghost use Rattle.lt_store.specs.Committing.{committed};
+ghost use Rattle.lt_store.specs.Getting.{IsBucketOf};
+ghost use Rattle.lt_store.specs.Going.{Goes, Survives};
+ghost use Rattle.lt_store.specs.Open.{IsOpen, blocks_of, root_pile, state_of};
+ghost use Rattle.lt_store.specs.Taking.{is_due, IsFull, IsFullImage};
+ghost use Rattle.lt_store.specs.View.{view_of};
+
+use crate::counts::Stat;
+use crate::faults::WriteFault;
+use crate::store::Store;
+use crate::writing::Taken;
+use lt_device::Device;
+use lt_page::Page;
+use std::alloc::Global;
+
+/// A call of a store.
+#[derive(Clone, Copy)]
+pub enum EventView<'a> {
+    Put { key: &'a [u8], value: &'a [u8] },
+    Delete { key: &'a [u8] },
+    Get { key: &'a [u8] },
+    Stat,
+    Commit,
+}
+
+/// What an event came to. The value of a get stands at the front of a page.
+#[derive(Clone, Copy, Debug, PartialEq, Eq)]
+pub enum Outcome {
+    Taken(Taken),
+    Value(u16),
+    Missing,
+    Stat(Stat),
+    Committed,
+}
+
+impl Store {
+    /// Makes the call that an event names. A put and a delete are of a valid item.
+    ///
+    /// It is a step of the map machine, and a commit makes all writes durable. `NoMemory` comes only of
+    /// a put or a delete, and `Damaged` only of a get. After `Device` the store is down, but for a get,
+    /// which leaves it as it is.
+    pub fn act<D: Device>(
+        &mut self,
+        alloc: Global,
+        device: &mut D,
+        event: EventView<'_>,
+        out: &mut Page,
+    ) -> Result<Outcome, WriteFault>
+        requires up { self.old.is_up ≡ true }
+        requires valid { MayAct event }
+        requires within { blocks_of (view_of self.old) ≤ D.blocks device.old }
+
+        // The command and its outcome are a step of the map machine.
+        ensures step { IfOk result (λ outcome. (durable : State) → IsOpen (view_of self.old) durable (D.state device.old)
+            → IsStep (view_of self.old).named.manifest.header.extents (state_of (view_of self.old) durable) (command_of event.entry) (reply_of outcome out.new) (after_writes (state_of (view_of self.old) durable) (accepted_as outcome (write_of event.entry)))) }
+
+        // The store goes on, with the write that was taken; and whatever it answers, nothing is lost at any moment.
+        ensures goes { IfOk result (λ outcome. (durable : State) → IsOpen (view_of self.old) durable (D.state device.old)
+            → Goes (view_of self.old) (accepted_as outcome (write_of event.entry)) (view_of self.new) durable (D.state device.old) (D.state device.new)) }
+        ensures goes_on { OnErr result (self.new.is_up ≡ true → (durable : State) → IsOpen (view_of self.old) durable (D.state device.old)
+            → Goes (view_of self.old) [] (view_of self.new) durable (D.state device.old) (D.state device.new)) }
+        ensures broken { OnErr result ((durable : State) → IsOpen (view_of self.old) durable (D.state device.old)
+            → Survives (view_of self.old) [] durable (D.state device.old) (D.state device.new)) }
+
+        ensures committed { command_of event.entry ≡ None → OnOk result (view_of self.new ≡ committed (view_of self.old)) }
+        ensures asked { IsTrue (only_asks event.entry) → (view_of self.new ≡ view_of self.old) × (D.state device.new ≡ D.state device.old) }
+        ensures limit { (result ≡ Ok (Outcome.Taken Taken.Limit)) ↔ (IsSome (write_of event.entry) × ((view_of self.old).writes ≡ most_writes)) }
+        ensures full { (needed free : ℕ) → result ≡ Ok (Outcome.Taken (Taken.Full needed free)) → IsFull (view_of self.new) needed free }
+        ensures full_images { (needed free : ℕ) → result ≡ Ok (Outcome.Taken (Taken.Full needed free)) → (durable : State) → IsOpen (view_of self.old) durable (D.state device.old)
+            → (left : Image) → MayLeave (D.state device.new) left → IsFullImage left needed free }
+        ensures at_once { (item : terms.Item) → write_of event.entry ≡ Some item → is_due (view_of self.old) ≡ false → total_cost (view_of self.old).memory ≤ 200000 → total_cost (view_of self.old).log.pending + item_cost item ≤ group_room → (view_of self.old).writes ≢ most_writes
+            → (result ≡ Ok (Outcome.Taken Taken.Ok)) × (device.new ≡ device.old) }
+        ensures stat { (s : Stat) → result ≡ Ok (Outcome.Stat s) → s ≡ record {
+          writes = (view_of self.old).writes;
+          reads = D.reads device.old;
+          tables = table_total (view_of self.old).named.manifest.trie;
+          free = free_count (view_of self.old).taken;
+        } }
+        ensures number { IfOk result (λ outcome. (view_of self.new).writes ≡ (view_of self.old).writes + length (accepted_as outcome (write_of event.entry))) }
+        ensures same_number { OnErr result (self.new.is_up ≡ true → (view_of self.new).writes ≡ (view_of self.old).writes) }
+        ensures page { KeepsOut result out.old out.new }
+
+        ensures memory { IsErrOf result WriteFault.NoMemory → IsSome (write_of event.entry) }
+        ensures damaged { (b : ℕ) → IsErrOf result (WriteFault.Damaged b) → IsTrue (only_asks event.entry) × IsNoBucket (D.state device.old).shown b }
+        ensures damaged_block { (b : ℕ) → IsErrOf result (WriteFault.Damaged b) → IsBucketOf (view_of self.old).named.geometry (root_pile (view_of self.old).named.manifest.trie) b }
+        ensures cause { IsErrOf result WriteFault.Device → Rose (D.faults device.old) (D.faults device.new) }
+        ensures later { D.faults device.old ≤ D.faults device.new }
+        ensures up { (self.new.is_up ≡ false) ↔ (IsErrOf result WriteFault.Device × (only_asks event.entry ≡ false)) }
+        ensures blocks { self.new.is_up ≡ true → blocks_of (view_of self.new) ≡ blocks_of (view_of self.old) }
+        ensures size { D.blocks device.new ≡ D.blocks device.old }
+        ensures count { CountsAtMost (2 * asked_by (view_of self.old) event.entry) (D.reads device.old) (D.reads device.new) }
+    {
+        match event {
+            EventView::Put { key, value } => {
+                Ok(Outcome::Taken(self.put(alloc, device, key, value)?))
+            }
+            EventView::Delete { key } => Ok(Outcome::Taken(self.delete(alloc, device, key)?)),
+            EventView::Get { key } => match self.get(device, key, out)? {
+                Some(len) => Ok(Outcome::Value(len)),
+                None => Ok(Outcome::Missing),
+            },
+            EventView::Stat => Ok(Outcome::Stat(self.stat(device))),
+            EventView::Commit => {
+                self.commit(device)?;
+                Ok(Outcome::Committed)
+            }
+        }
+    }
+}

@@ -1,0 +1,255 @@
+//! Puts and deletes.
+
+ghost use Rattle.std.specs.Prelude.{◌≡◌, ◌↔◌, ℕ, ◌+◌, ◌*◌, ◌<◌, ◌≤◌, ◌≢◌, true, false, List, [], Ok, Some, None, IfOk, IsErrOf, IsOk, IsTrue, OnErr, OnOk, length};
+ghost use Rattle.lt_terms.specs.Bytes.{Image};
+ghost use Rattle.lt_terms.specs.Causes.{HasCause, Rose};
+ghost use Rattle.lt_terms.specs.Items.{is_key, is_valid, item_cost, total_cost};
+ghost use Rattle.lt_alloc.specs.declared.extents.Short.{Short};
+ghost use Rattle.lt_device.specs.Moments.{MayLeave};
+ghost use Rattle.lt_item.specs.Views.{item_of};
+ghost use Rattle.lt_language.specs.Machine.{State, delete_of, most_writes, put_of};
+ghost use Rattle.lt_format.specs.Log.{group_room};
+ghost use Rattle.lt_store.specs.Flushing.{Stays};
+ghost use Rattle.lt_store.specs.Going.{Goes, Survives, appended};
+ghost use Rattle.lt_store.specs.Open.{IsOpen, blocks_of};
+ghost use Rattle.lt_store.specs.Taking.{accepted_by, is_due, IsFull, IsFullImage};
+ghost use Rattle.lt_store.specs.View.{view_of};
+
+use crate::faults::WriteFault;
+use crate::store::Store;
+use lt_alloc::Short;
+use lt_device::Device;
+use lt_item::{ItemView, Kind, cost};
+use lt_page::Failed;
+use std::alloc::Global;
+
+/// Above so many bytes in the memory table a flush is due.
+const FLUSH_BYTES: u32 = 200_000;
+
+/// What became of a put or a delete.
+#[derive(Clone, Copy, Debug, PartialEq, Eq)]
+pub enum Taken {
+    Ok,
+    /// A flush is due, and needs more extents than are free.
+    Full {
+        needed: u32,
+        free: u32,
+    },
+    /// The number of writes is at its limit.
+    Limit,
+}
+
+impl Store {
+    /// Takes a put of a valid item. It is durable once a commit that follows answered Ok.
+    ///
+    /// `Limit` comes exactly where the number of writes is at its limit, and then nothing has changed.
+    /// The open group is committed first where the item has no room in it or the memory table has too
+    /// many bytes, and then the newest items of the memory table become tables of the root where no
+    /// slot is left for a group or there are too many bytes. `Full` comes where these tables need more
+    /// extents than are free. With room in the open group and no flush due, no call of the device is
+    /// made.
+    pub fn put<D: Device>(
+        &mut self,
+        alloc: Global,
+        device: &mut D,
+        key: &[u8],
+        value: &[u8],
+    ) -> Result<Taken, WriteFault>
+        requires up { self.old.is_up ≡ true }
+        requires valid { IsTrue (is_valid (put_of key.now value.now)) }
+        requires within { blocks_of (view_of self.old) ≤ D.blocks device.old }
+        ensures taken { IfOk result (λ taken. (durable : State) → IsOpen (view_of self.old) durable (D.state device.old)
+            → Goes (view_of self.old) (accepted_by (put_of key.now value.now) taken) (view_of self.new) durable (D.state device.old) (D.state device.new)) }
+        ensures refused { IsErrOf result WriteFault.NoMemory → (durable : State) → IsOpen (view_of self.old) durable (D.state device.old)
+            → Goes (view_of self.old) [] (view_of self.new) durable (D.state device.old) (D.state device.new) }
+        ensures broken { IsErrOf result WriteFault.Device → (durable : State) → IsOpen (view_of self.old) durable (D.state device.old)
+            → Survives (view_of self.old) [] durable (D.state device.old) (D.state device.new) }
+        ensures limit { (result ≡ Ok Taken.Limit) ↔ ((view_of self.old).writes ≡ most_writes) }
+        ensures full { (needed free : ℕ) → result ≡ Ok (Taken.Full needed free) → IsFull (view_of self.new) needed free }
+        ensures full_images { (needed free : ℕ) → result ≡ Ok (Taken.Full needed free) → (durable : State) → IsOpen (view_of self.old) durable (D.state device.old)
+            → ((left : Image) → MayLeave (D.state device.new) left → IsFullImage left needed free) × ((view_of self.old).named.manifest.header.extents < 2 * (view_of self.old).writes) }
+        ensures at_once { is_due (view_of self.old) ≡ false → total_cost (view_of self.old).memory ≤ 200000 → total_cost (view_of self.old).log.pending + item_cost (put_of key.now value.now) ≤ group_room → (view_of self.old).writes ≢ most_writes
+            → (result ≡ Ok Taken.Ok) × (device.new ≡ device.old) }
+        ensures number { IfOk result (λ taken. (view_of self.new).writes ≡ (view_of self.old).writes + length (accepted_by (put_of key.now value.now) taken)) }
+        ensures same_number { IsErrOf result WriteFault.NoMemory → (view_of self.new).writes ≡ (view_of self.old).writes }
+        ensures undamaged { (b : ℕ) → IsErrOf result (WriteFault.Damaged b) → ⊥ }
+        ensures up { (self.new.is_up ≡ false) ↔ IsErrOf result WriteFault.Device }
+        ensures blocks { self.new.is_up ≡ true → blocks_of (view_of self.new) ≡ blocks_of (view_of self.old) }
+        ensures size { D.blocks device.new ≡ D.blocks device.old }
+        ensures count { D.reads device.new ≡ D.reads device.old }
+        ensures later { D.faults device.old ≤ D.faults device.new }
+        ensures cause { IsErrOf result WriteFault.Device → Rose (D.faults device.old) (D.faults device.new) }
+    {
+        let item = ItemView {
+            kind: Kind::Put,
+            key,
+            value,
+        };
+        self.write(alloc, device, &item)
+    }
+
+    /// Takes a delete of a key, as a put is taken.
+    pub fn delete<D: Device>(
+        &mut self,
+        alloc: Global,
+        device: &mut D,
+        key: &[u8],
+    ) -> Result<Taken, WriteFault>
+        requires up { self.old.is_up ≡ true }
+        requires valid { IsTrue (is_key key.now) }
+        requires within { blocks_of (view_of self.old) ≤ D.blocks device.old }
+        ensures taken { IfOk result (λ taken. (durable : State) → IsOpen (view_of self.old) durable (D.state device.old)
+            → Goes (view_of self.old) (accepted_by (delete_of key.now) taken) (view_of self.new) durable (D.state device.old) (D.state device.new)) }
+        ensures refused { IsErrOf result WriteFault.NoMemory → (durable : State) → IsOpen (view_of self.old) durable (D.state device.old)
+            → Goes (view_of self.old) [] (view_of self.new) durable (D.state device.old) (D.state device.new) }
+        ensures broken { IsErrOf result WriteFault.Device → (durable : State) → IsOpen (view_of self.old) durable (D.state device.old)
+            → Survives (view_of self.old) [] durable (D.state device.old) (D.state device.new) }
+        ensures limit { (result ≡ Ok Taken.Limit) ↔ ((view_of self.old).writes ≡ most_writes) }
+        ensures full { (needed free : ℕ) → result ≡ Ok (Taken.Full needed free) → IsFull (view_of self.new) needed free }
+        ensures full_images { (needed free : ℕ) → result ≡ Ok (Taken.Full needed free) → (durable : State) → IsOpen (view_of self.old) durable (D.state device.old)
+            → ((left : Image) → MayLeave (D.state device.new) left → IsFullImage left needed free) × ((view_of self.old).named.manifest.header.extents < 2 * (view_of self.old).writes) }
+        ensures at_once { is_due (view_of self.old) ≡ false → total_cost (view_of self.old).memory ≤ 200000 → total_cost (view_of self.old).log.pending + item_cost (delete_of key.now) ≤ group_room → (view_of self.old).writes ≢ most_writes
+            → (result ≡ Ok Taken.Ok) × (device.new ≡ device.old) }
+        ensures number { IfOk result (λ taken. (view_of self.new).writes ≡ (view_of self.old).writes + length (accepted_by (delete_of key.now) taken)) }
+        ensures same_number { IsErrOf result WriteFault.NoMemory → (view_of self.new).writes ≡ (view_of self.old).writes }
+        ensures undamaged { (b : ℕ) → IsErrOf result (WriteFault.Damaged b) → ⊥ }
+        ensures up { (self.new.is_up ≡ false) ↔ IsErrOf result WriteFault.Device }
+        ensures blocks { self.new.is_up ≡ true → blocks_of (view_of self.new) ≡ blocks_of (view_of self.old) }
+        ensures size { D.blocks device.new ≡ D.blocks device.old }
+        ensures count { D.reads device.new ≡ D.reads device.old }
+        ensures later { D.faults device.old ≤ D.faults device.new }
+        ensures cause { IsErrOf result WriteFault.Device → Rose (D.faults device.old) (D.faults device.new) }
+    {
+        let item = ItemView {
+            kind: Kind::Delete,
+            key,
+            value: &[],
+        };
+        self.write(alloc, device, &item)
+    }
+
+    fn write<D: Device>(
+        &mut self,
+        alloc: Global,
+        device: &mut D,
+        item: &ItemView<'_>,
+    ) -> Result<Taken, WriteFault>
+        requires up { self.old.is_up ≡ true }
+        requires valid { IsTrue (is_valid (item_of item.now)) }
+        requires within { blocks_of (view_of self.old) ≤ D.blocks device.old }
+        ensures taken { IfOk result (λ taken. (durable : State) → IsOpen (view_of self.old) durable (D.state device.old)
+            → Goes (view_of self.old) (accepted_by (item_of item.now) taken) (view_of self.new) durable (D.state device.old) (D.state device.new)) }
+        ensures refused { IsErrOf result WriteFault.NoMemory → (durable : State) → IsOpen (view_of self.old) durable (D.state device.old)
+            → Goes (view_of self.old) [] (view_of self.new) durable (D.state device.old) (D.state device.new) }
+        ensures broken { IsErrOf result WriteFault.Device → (durable : State) → IsOpen (view_of self.old) durable (D.state device.old)
+            → Survives (view_of self.old) [] durable (D.state device.old) (D.state device.new) }
+        ensures limit { (result ≡ Ok Taken.Limit) ↔ ((view_of self.old).writes ≡ most_writes) }
+        ensures full { (needed free : ℕ) → result ≡ Ok (Taken.Full needed free) → IsFull (view_of self.new) needed free }
+        ensures full_images { (needed free : ℕ) → result ≡ Ok (Taken.Full needed free) → (durable : State) → IsOpen (view_of self.old) durable (D.state device.old)
+            → ((left : Image) → MayLeave (D.state device.new) left → IsFullImage left needed free) × ((view_of self.old).named.manifest.header.extents < 2 * (view_of self.old).writes) }
+        ensures at_once { is_due (view_of self.old) ≡ false → total_cost (view_of self.old).memory ≤ 200000 → total_cost (view_of self.old).log.pending + item_cost (item_of item.now) ≤ group_room → (view_of self.old).writes ≢ most_writes
+            → (result ≡ Ok Taken.Ok) × (device.new ≡ device.old) }
+        ensures number { IfOk result (λ taken. (view_of self.new).writes ≡ (view_of self.old).writes + length (accepted_by (item_of item.now) taken)) }
+        ensures same_number { IsErrOf result WriteFault.NoMemory → (view_of self.new).writes ≡ (view_of self.old).writes }
+        ensures undamaged { (b : ℕ) → IsErrOf result (WriteFault.Damaged b) → ⊥ }
+        ensures up { (self.new.is_up ≡ false) ↔ IsErrOf result WriteFault.Device }
+        ensures blocks { self.new.is_up ≡ true → blocks_of (view_of self.new) ≡ blocks_of (view_of self.old) }
+        ensures size { D.blocks device.new ≡ D.blocks device.old }
+        ensures count { D.reads device.new ≡ D.reads device.old }
+        ensures later { D.faults device.old ≤ D.faults device.new }
+        ensures cause { IsErrOf result WriteFault.Device → Rose (D.faults device.old) (D.faults device.new) }
+    {
+        if self.writes == u64::MAX {
+            return Ok(Taken::Limit);
+        }
+        self.commit_full(device, cost(item))?;
+        match self.flush_due(alloc, device)? {
+            None => {
+                self.append(item);
+                Ok(Taken::Ok)
+            }
+            Some(Short { needed, free }) => Ok(Taken::Full { needed, free }),
+        }
+    }
+
+    /// Commits the open group where an item of this cost has no room in it, or the memory table has too
+    /// many bytes.
+    fn commit_full<D: Device>(&mut self, device: &mut D, cost: u16) -> Result<(), Failed>
+        requires up { self.old.is_up ≡ true }
+        requires within { blocks_of (view_of self.old) ≤ D.blocks device.old }
+        requires cost { cost ≤ group_room }
+        ensures rest { OnOk result (view_of self.new ≡ record (view_of self.old) { log = (view_of self.new).log }) }
+        ensures room { OnOk result (total_cost self.new.log.pending + cost ≤ group_room) }
+        ensures small { OnOk result (0 < length self.new.log.pending → total_cost (view_of self.new).memory ≤ 200000) }
+        ensures goes { OnOk result ((durable : State) → IsOpen (view_of self.old) durable (D.state device.old)
+            → Goes (view_of self.old) [] (view_of self.new) durable (D.state device.old) (D.state device.new)) }
+        ensures broken { OnErr result ((durable : State) → IsOpen (view_of self.old) durable (D.state device.old)
+            → Survives (view_of self.old) [] durable (D.state device.old) (D.state device.new)) }
+        ensures at_once { total_cost (view_of self.old).memory ≤ 200000 → total_cost self.old.log.pending + cost ≤ group_room
+            → IsOk result × (view_of self.new ≡ view_of self.old) × (device.new ≡ device.old) }
+        ensures up { OnOk result (self.new.is_up ≡ true) }
+        ensures err { OnErr result (self.new.is_up ≡ false) }
+        ensures size { D.blocks device.new ≡ D.blocks device.old }
+        ensures count { D.reads device.new ≡ D.reads device.old }
+        ensures cause { HasCause (D.faults device.old) (D.faults device.new) result }
+    {
+        if self.log.room() >= cost && self.memory.bytes() <= FLUSH_BYTES {
+            return Ok(());
+        }
+        self.commit(device)
+    }
+
+    /// Flushes where nothing is pending and no slot is left or the memory table has too many bytes.
+    fn flush_due<D: Device>(
+        &mut self,
+        alloc: Global,
+        device: &mut D,
+    ) -> Result<Option<Short>, WriteFault>
+        requires up { self.old.is_up ≡ true }
+        requires within { blocks_of (view_of self.old) ≤ D.blocks device.old }
+        requires small { 0 < length self.old.log.pending → total_cost (view_of self.old).memory ≤ 200000 }
+        ensures stays { (durable : State) → IsOpen (view_of self.old) durable (D.state device.old) → Stays durable (D.state device.old) (D.state device.new) }
+        ensures opened { IsOk result → (durable : State) → IsOpen (view_of self.old) durable (D.state device.old) → IsOpen (view_of self.new) durable (D.state device.new) }
+        ensures opened_again { IsErrOf result WriteFault.NoMemory → (durable : State) → IsOpen (view_of self.old) durable (D.state device.old) → IsOpen (view_of self.new) durable (D.state device.new) }
+        ensures not_due { is_due (view_of self.old) ≡ false → (result ≡ Ok None) × (view_of self.new ≡ view_of self.old) × (device.new ≡ device.old) }
+        ensures pending { IsOk result → self.new.log.pending ≡ self.old.log.pending }
+        ensures pending_again { IsErrOf result WriteFault.NoMemory → self.new.log.pending ≡ self.old.log.pending }
+        ensures small { result ≡ Ok None → total_cost (view_of self.new).memory ≤ 200000 }
+        ensures slot { result ≡ Ok None → self.new.log.slots < (view_of self.new).named.geometry.slots }
+        ensures full { (short : Short) → result ≡ Ok (Some short) → IsFull (view_of self.new) short.needed short.free }
+        ensures full_images { (short : Short) → result ≡ Ok (Some short) → (durable : State) → IsOpen (view_of self.old) durable (D.state device.old)
+            → ((left : Image) → MayLeave (D.state device.new) left → IsFullImage left short.needed short.free) × ((view_of self.old).named.manifest.header.extents < 2 * (view_of self.old).writes) }
+        ensures up { (self.new.is_up ≡ false) ↔ IsErrOf result WriteFault.Device }
+        ensures writes { self.new.writes ≡ self.old.writes }
+        ensures undamaged { (b : ℕ) → IsErrOf result (WriteFault.Damaged b) → ⊥ }
+        ensures blocks { self.new.is_up ≡ true → blocks_of (view_of self.new) ≡ blocks_of (view_of self.old) }
+        ensures size { D.blocks device.new ≡ D.blocks device.old }
+        ensures count { D.reads device.new ≡ D.reads device.old }
+        ensures later { D.faults device.old ≤ D.faults device.new }
+        ensures cause { IsErrOf result WriteFault.Device → Rose (D.faults device.old) (D.faults device.new) }
+    {
+        let has_slot = self.log.slots_left() > 0;
+        if self.log.pending() > 0 || has_slot && self.memory.bytes() <= FLUSH_BYTES {
+            return Ok(None);
+        }
+        self.flush(alloc, device)
+    }
+
+    /// Adds a write to the open group and to the memory table.
+    fn append(&mut self, item: &ItemView<'_>)
+        requires up { self.old.is_up ≡ true }
+        requires valid { IsTrue (is_valid (item_of item.now)) }
+        requires room { total_cost self.old.log.pending + item_cost (item_of item.now) ≤ group_room }
+        requires small { total_cost (view_of self.old).memory ≤ 200000 }
+        requires slot { self.old.log.slots < (view_of self.old).named.geometry.slots }
+        requires number { (view_of self.old).writes ≢ most_writes }
+        ensures { view_of self.new ≡ appended (view_of self.old) (item_of item.now) }
+    {
+        self.log.append(item).unwrap();
+        match item.kind {
+            Kind::Put => self.memory.put(item.key, item.value),
+            Kind::Delete => self.memory.delete(item.key),
+        }
+        self.writes += 1;
+    }
+}
