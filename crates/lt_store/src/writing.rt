@@ -31,10 +31,7 @@ const FLUSH_BYTES: u32 = 200_000;
 pub enum Taken {
     Ok,
     /// A flush is due, and needs more extents than are free.
-    Full {
-        needed: u32,
-        free: u32,
-    },
+    Full { needed: u32, free: u32 },
     /// The number of writes is at its limit.
     Limit,
 }

@@ -18,7 +18,8 @@ returns-clause-full_images g c = λ short is d o.
     let state : g.D.Device.state c.flush.new.device ≡ g.D.Device.state c.args.device.now = ap g.D.Device.state same in
     let needed = lacks.needed in
     let free = lacks.free in
-    let few = lacks.few in
-    ((λ left may. subst (λ n. IsFullImage left n short.free) (sym needed) (subst (λ f. IsFullImage left (table_total (newest v.memory)) f) (sym free)
-    (full-image v d (g.D.Device.state c.args.device.now) _ o kept due left (subst (λ s. MayLeave s left) state may)))),
-    few-extents v d (g.D.Device.state c.args.device.now) _ o kept (omega (arith, needed, free, few)))
+    let few = lacks.few in (
+      (λ left may. subst (λ n. IsFullImage left n short.free) (sym needed) (subst (λ f. IsFullImage left (table_total (newest v.memory)) f) (sym free)
+          (full-image v d (g.D.Device.state c.args.device.now) _ o kept due left (subst (λ s. MayLeave s left) state may)))),
+      few-extents v d (g.D.Device.state c.args.device.now) _ o kept (omega (arith, needed, free, few)),
+    )

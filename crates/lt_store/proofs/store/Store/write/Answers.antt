@@ -35,7 +35,7 @@ returns-in-None-clause-taken g c = λ d o.
     let x : StoreView = view_of c.flush_due.new.self in
     let went = c.in_ok-commit_full.ensures.goes d o in
     let goes = goes-stays v [] (view_of c.commit_full.new.self) x d (g.D.Device.state c.args.device.now) (g.D.Device.state c.commit_full.new.device) (g.D.Device.state c.flush_due.new.device) went
-        (c.in_ok-flush_due.ensures.pending (search rules)) (c.in_ok-flush_due.ensures.opened (search rules) _ went.opened) (c.in_ok-flush_due.ensures.stays _ went.opened) in
+    (c.in_ok-flush_due.ensures.pending (search rules)) (c.in_ok-flush_due.ensures.opened (search rules) _ went.opened) (c.in_ok-flush_due.ensures.stays _ went.opened) in
     subst (λ (z : StoreView). Goes v (item_of c.args.item.now ∷ []) z d (g.D.Device.state c.args.device.now) (g.D.Device.state c.flush_due.new.device)) (sym c.append.ensures)
     (goes-append v x (item_of c.args.item.now) d (g.D.Device.state c.args.device.now) (g.D.Device.state c.flush_due.new.device) goes)
 
