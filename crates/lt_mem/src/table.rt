@@ -1,6 +1,6 @@
 //! Items in one buffer, found by a hash of their keys.
 
-ghost use Rattle.std.specs.Prelude.{◌≡◌, ◌+◌, ◌<◌, ◌≤◌, ◌∷◌, [], ◌++◌, IfOk, IsTrue, vec_len, vec_capacity};
+ghost use Rattle.std.specs.Prelude.{◌≡◌, ◌+◌, ◌<◌, ◌≤◌, ◌∷◌, [], ◌++◌, IfOk, IfSome, IsTrue, vec_len, vec_capacity};
 ghost use Rattle.std.specs.List.{list_all};
 ghost use Rattle.std.specs.Option.{option_map};
 ghost use Rattle.lt_terms.specs.Items.{is_key, is_valid, item_cost, spelling, total_cost};
@@ -116,7 +116,8 @@ impl MemTable {
 
     /// The newest item of a key, which may be a delete. `None` exactly where no item has that key.
     pub fn get(&self, key: &[u8]) -> Option<ItemView<'_>>
-        ensures { option_map item_of result ≡ newest_of key.now self.now }
+        ensures item { option_map item_of result ≡ newest_of key.now self.now }
+        ensures valid { IfSome result (λ item. IsTrue (is_valid (item_of item))) }
     {
         let mut number = self.heads[bucket_of(key)];
         while number > 0 {

@@ -20,15 +20,15 @@ index-place-requires c =
     let some = c.loop-number-test.true in
     omega arith
 
-pub returns-in_err-item : goal.returns-in_err-item
-returns-in_err-item c =
+pub returns-in_err-item-clause-item : goal.returns-in_err-item-clause-item
+returns-in_err-item-clause-item c =
     let there = (has_place _ _ _ _ _ _ c.self.invariant.index c.loop-number-test.true c.loop-number.invariant.within c.index-place.ensures).reads in
     let none = c.in_err-item.ensures.item in
     let bytes = c.deref.ensures.value in
     absurd (cc)
 
-pub returns-then-eq : goal.returns-then-eq
-returns-then-eq c =
+pub returns-then-eq-clause-item : goal.returns-then-eq-clause-item
+returns-then-eq-clause-item c =
     let there = has_place _ _ _ _ _ _ c.self.invariant.index c.loop-number-test.true c.loop-number.invariant.within c.index-place.ensures in
     let same : item_of c.in_ok-item.item ≡ numbered (items_inside c.self.inside) c.loop-number.number = same_item _ _ _ _ _ _ _ c.deref.ensures.value c.in_ok-item.ensures.item there.reads in
     ap Some same
