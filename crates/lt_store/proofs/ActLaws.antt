@@ -1,8 +1,7 @@
 -- What an event comes to.
-use Rattle.std.proofs.Common.{◌≡◌, ℕ, ◌+◌, ◌*◌, ◌<◌, ◌≤◌, refl, sym, ap, subst, ◌∙◌, List, [], ◌∷◌, length, Bool, true, false, Option, Some, None, Result, Ok, Err, arith, true≢false}
+use Rattle.std.proofs.Common.{◌≡◌, ℕ, ◌+◌, ◌*◌, ◌<◌, ◌≤◌, refl, sym, ap, subst, ◌∙◌, List, [], Bool, true, false, Some, Result, Ok, Err, true≢false}
 use Rattle.std.specs.Prelude.{◌↔◌, ◌≢◌, IsErrOf, OnErr}
 use Rattle.lt_device.specs.State as told
-use Rattle.lt_terms.specs.Items.{Item}
 use Rattle.lt_language.specs.Commands as commands
 use Rattle.lt_language.specs.Machine.{State, most_writes, put_of, delete_of}
 use Rattle.lt_image.specs.Standing.{after_writes}
@@ -14,7 +13,7 @@ use Rattle.lt_store.specs.declared.faults.WriteFault.TheVariants.{Device, Damage
 use Rattle.lt_store.specs.declared.writing.Taken.{Taken}
 use Rattle.lt_store.specs.declared.writing.Taken.TheVariants as taken
 use Rattle.lt_store.specs.Acting.{IsStep, reply_of}
-use Rattle.lt_store.specs.Going.{Goes, Survives}
+use Rattle.lt_store.specs.Going.{Goes}
 use Rattle.lt_store.specs.Open.{StoreView, IsOpen}
 use Rattle.lt_store.specs.Taking.{accepted_by}
 use Rattle.lt_store.proofs.GoLaws.{goes-none}

@@ -1,16 +1,14 @@
 -- What an open store's image holds, and what a get answers from it.
-use Rattle.std.proofs.Common.{◌≡◌, ℕ, ◌+◌, ◌*◌, ◌<◌, ◌≤◌, min, refl, sym, ap, subst, ◌∙◌, List, [], ◌∷◌, ◌++◌, length, take, Bool, true, false, cond, Option, Some, None, Result, Ok, Err, append_assoc, length-append, arith, leb-true, ltb-true}
-use Rattle.std.specs.Prelude.{IsTrue, IsFalse, nat_le, nat_lt}
-use Rattle.std.specs.List.{AllByRecursion, last_or}
+use Rattle.std.proofs.Common.{◌≡◌, ℕ, ◌+◌, ◌*◌, ◌<◌, ◌≤◌, refl, sym, ap, subst, ◌∙◌, List, [], ◌∷◌, ◌++◌, length, Bool, true, false, cond, Option, Some, None, Result, Ok, Err, append_assoc, length-append, arith, ltb-true}
+use Rattle.std.specs.Prelude.{IsFalse, nat_lt}
+use Rattle.std.specs.List.{AllByRecursion}
 use Rattle.std.specs.Option.{option_or, option_map_or}
 use Rattle.std.proofs.lemmas.Bool.{and_parts}
-use Rattle.std.proofs.lemmas.List.{take_all, take_at}
-use Rattle.std.proofs.lemmas.List.Sums.{fold-append, sum_by-cons}
-use Rattle.lt_terms.specs.declared.Kind.{Kind}
-use Rattle.lt_terms.specs.declared.Kind.TheVariants.{Put, Delete}
-use Rattle.lt_terms.specs.Bytes.{Image, same_bytes}
+use Rattle.std.proofs.lemmas.List.{take_at}
+use Rattle.std.proofs.lemmas.List.Sums.{fold-append}
+use Rattle.lt_terms.specs.Bytes.{Image}
 use Rattle.lt_terms.specs.Hashes.{home_column}
-use Rattle.lt_terms.specs.Items.{Item, is_key, is_valid, value_limit, item_cost, total_cost}
+use Rattle.lt_terms.specs.Items.{Item}
 use Rattle.lt_terms.specs.Maps.{value_at, applied, after_items, empty_map}
 use Rattle.lt_language.specs.Machine.{State}
 use Rattle.lt_device.specs.State as told
@@ -20,10 +18,9 @@ use Rattle.lt_tables.specs.Merge.{newest, newest_of, value_of, is_put}
 use Rattle.lt_tables.specs.Table.{IsPlaced}
 use Rattle.lt_tables.proofs.RankLaws.{newest_or}
 use Rattle.lt_tables.proofs.NewestLaws.{newest_of-append}
-use Rattle.lt_tables.proofs.ValidLaws.{AllValid, table_items-valid}
 use Rattle.lt_tables.proofs.VersionLaws.{get_versions}
 use Rattle.lt_format.specs.declared.geometry.Geometry.{Geometry}
-use Rattle.lt_format.specs.Log.{log_groups, items_in, group_room}
+use Rattle.lt_format.specs.Log.{log_groups, items_in}
 use Rattle.lt_format.specs.Naming.{Named}
 use Rattle.lt_format.specs.Layout.{extent_block}
 use Rattle.lt_format.specs.Trie.{Trie, root, named, all_below, IsTrie}
@@ -34,7 +31,7 @@ use Rattle.lt_image.specs.OnPath.{Stop, first_some}
 use Rattle.lt_image.specs.Opening.{Opened, open_image}
 use Rattle.lt_image.specs.Versions.{extent_in, items_at, pile_items, versions}
 use Rattle.lt_image.proofs.MapLaws.{named-tables}
-use Rattle.lt_image.proofs.OpenLaws.{opens-is, opens-well, log_items-valid}
+use Rattle.lt_image.proofs.OpenLaws.{opens-is, opens-well}
 use Rattle.lt_image.proofs.PathLaws.{newest_or-is, first_some-pile}
 use Rattle.lt_image.proofs.PlacedLaws.{named-placed, named-skips}
 use Rattle.lt_image.proofs.RootLaws.{root-stops}
@@ -43,76 +40,26 @@ use Rattle.lt_image.proofs.StandLaws.{StandsAs, stands-as}
 use Rattle.lt_store.specs.declared.getting.Version.{Version}
 use Rattle.lt_store.specs.declared.getting.Version.TheVariants.{Value, Deleted}
 use Rattle.lt_store.specs.Building.{KeepsFilter}
-use Rattle.lt_store.specs.Getting.{Finds, Answers, IsVersion, IsAnswer, IsReadable, HoldsKey, asked_from, shown_len, with_value, version_of, page_with, value_len}
+use Rattle.lt_store.specs.Getting.{Finds, Answers, IsVersion, IsAnswer, IsReadable, HoldsKey, asked_from, with_value, version_of, page_with, value_len}
 use Rattle.lt_store.specs.Kept.{IsKept}
 use Rattle.lt_store.specs.Open.{StoreView, IsOpen, root_pile, state_of}
 
 -- ---- a value at the front of a page
 
-front : (value page : List ℕ) → length value ≤ 4096 → (length value ≡ shown_len value) × (take (shown_len value) (with_value page value) ≡ value)
-front value page small =
-    let len : min (length value) 4096 ≡ length value = omega arith in
-    let whole : take (shown_len value) value ≡ value = take_all (shown_len value) value (omega arith) in
-    (sym len, take_at (take (shown_len value) value) _ (shown_len value) (ap length whole ∙ sym len) ∙ whole)
+finds_put : (value old : List ℕ) (b : Bool) → Finds (cond b (with_value old value) old) (cond b (Some value) None) (value_len (Some (cond b (Value (length value)) Deleted)))
+finds_put value old true = (refl, take_at value _ (length value) refl)
+finds_put value old false = tt
 
--- an item as small as it may be
-abbrev IsSmall : Item → Type 0
-IsSmall v = length v.value ≤ 4096
-
-finds_put : (value old : List ℕ) (b : Bool) → length value ≤ 4096 → Finds (cond b (with_value old value) old) (cond b (Some value) None) (value_len (Some (cond b (Value (shown_len value)) Deleted)))
-finds_put value old true small = front value old small
-finds_put value old false small = tt
-
-finds : (item : Option Item) (version : Option Version) (old new : List ℕ) → ((v : Item) → item ≡ Some v → IsSmall v) → IsVersion item version old new → Finds new (value_of item) (value_len version)
-finds None None old new small is = tt
-finds None (Some w) old new small is = absurd is
-finds (Some v) None old new small is = absurd is
-finds (Some v) (Some w) old new small is =
+finds : (item : Option Item) (version : Option Version) (old new : List ℕ) → IsVersion item version old new → Finds new (value_of item) (value_len version)
+finds None None old new is = tt
+finds None (Some w) old new is = absurd is
+finds (Some v) None old new is = absurd is
+finds (Some v) (Some w) old new is =
     subst (λ (page : List ℕ). Finds page (value_of (Some v)) (value_len (Some w))) (sym is.1)
-    (subst (λ (x : Version). Finds (page_with v old) (value_of (Some v)) (value_len (Some x))) (sym is.0) (finds_put v.value old (is_put v) (small v refl)))
+    (subst (λ (x : Version). Finds (page_with v old) (value_of (Some v)) (value_len (Some x))) (sym is.0) (finds_put v.value old (is_put v)))
 
-answers : (item : Option Item) (found : Option Item) (version : Option Version) (old new : List ℕ) → found ≡ item → ((v : Item) → found ≡ Some v → IsSmall v) → IsVersion item version old new → Answers new (value_of found) (Ok (value_len version))
-answers item found version old new is small h = finds found version old new small (subst (λ (o : Option Item). IsVersion o version old new) (sym is) h)
-
--- ---- items are small
-
-pub valid-small : (v : Item) → IsTrue (is_valid v) → IsSmall v
-valid-small v h = let len : length v.value ≤ value_limit v.kind = leb-true _ _ (and_parts (is_key v.key) (nat_le (length v.value) (value_limit v.kind)) h).1 in let most = limit v.kind in omega arith
-  where
-    limit : (k : Kind) → value_limit k ≤ 3000
-    limit Put = omega arith
-    limit Delete = omega arith
-
-all_small : (items : List Item) → AllValid items → AllByRecursion IsSmall items
-all_small [] all = tt
-all_small (v ∷ items) all = (valid-small v all.0, all_small items all.1)
-
-few_small : (items : List Item) (n : ℕ) → total_cost items ≤ n → n ≤ 4096 → AllByRecursion IsSmall items
-few_small [] n h most = tt
-few_small (v ∷ items) n h most = let sum = sum_by-cons item_cost v items in (omega (arith, sum), few_small items n (omega (arith, sum)) most)
-
-small_append : (xs ys : List Item) → AllByRecursion IsSmall xs → AllByRecursion IsSmall ys → AllByRecursion IsSmall (xs ++ ys)
-small_append [] ys a b = b
-small_append (x ∷ xs) ys a b = (a.0, small_append xs ys a.1 b)
-
-small_pile : (g : Geometry) (image : Image) (tables : List ℕ) → AllByRecursion IsSmall (pile_items g image tables)
-small_pile g image [] = tt
-small_pile g image (x ∷ tables) = small_append (items_at g image x) (pile_items g image tables) (all_small (items_at g image x) (table_items-valid (extent_in g image x))) (small_pile g image tables)
-
-newest-among : (P : Item → Type 0) (key : List ℕ) (xs : List Item) (v : Item) → AllByRecursion P xs → newest_of key xs ≡ Some v → P v
-newest-among P key [] v all h = cc
-newest-among P key (x ∷ xs) v all h = by_rest (newest_of key xs) refl (λ w e. newest-among P key xs w all.1 e) (sym (newest_of-append key (x ∷ []) xs) ∙ h)
-  where
-    one : (a b : Item) → ◌≡◌ {A = Option Item} (Some a) (Some b) → a ≡ b
-    one a b e = cc
-
-    by_test : (same : Bool) → last_or None (cond same (x ∷ []) []) ≡ Some v → P v
-    by_test true h = subst P (one x v h) all.0
-    by_test false h = cc
-
-    by_rest : (o : Option Item) → newest_of key xs ≡ o → ((w : Item) → newest_of key xs ≡ Some w → P w) → newest_or (newest_of key (x ∷ [])) o ≡ Some v → P v
-    by_rest (Some w) e ih h = ih v (e ∙ h)
-    by_rest None e ih h = by_test (same_bytes x.key key) h
+answers : (item : Option Item) (found : Option Item) (version : Option Version) (old new : List ℕ) → found ≡ item → IsVersion item version old new → Answers new (value_of found) (Ok (value_len version))
+answers item found version old new is h = finds found version old new (subst (λ (o : Option Item). IsVersion o version old new) (sym is) h)
 
 -- ---- tables with their filters
 
@@ -186,19 +133,10 @@ module _ (v : StoreView) (d : State) (device : told.State) (o : IsOpen v d devic
       ∙ get_versions (versions opened o.rest.image ++ v.log.pending) key
       ∙ ap value_of newest_all
 
-  memory_small : AllByRecursion IsSmall v.memory
-  unfolding opened
-  memory_small = subst (λ xs. AllByRecursion IsSmall xs) (sym o.memory)
-      (small_append (items_in o.groups) v.log.pending (all_small (items_in o.groups) (log_items-valid o.rest.image opened open-image)) (few_small v.log.pending group_room k.room (omega arith)))
-
-  all_items_small : AllByRecursion IsSmall (pile ++ v.memory)
-  unfolding pile
-  all_items_small = small_append pile v.memory (small_pile v.named.geometry o.rest.image (root_pile v.named.manifest.trie)) memory_small
-
   answered : (item : Option Item) (version : Option Version) (old new : List ℕ) → newest_of key (pile ++ v.memory) ≡ item → IsVersion item version old new → Answers new (value_at (state_of v d).map key) (Ok (value_len version))
   answered item version old new is h =
       subst (λ value. Answers new value (Ok (value_len version))) (sym value-newest)
-      (answers item (newest_of key (pile ++ v.memory)) version old new is (λ w e. newest-among IsSmall key (pile ++ v.memory) w all_items_small e) h)
+      (answers item (newest_of key (pile ++ v.memory)) version old new is h)
 
   -- the number of writes
   pub all-writes : (state_of v d).writes ≡ v.writes

@@ -1,34 +1,20 @@
 -- How calls of an open store follow one another.
-use Rattle.std.proofs.Common.{◌≡◌, ℕ, zero, suc, ◌+◌, ◌≤◌, refl, sym, ap, subst, ◌∙◌, List, [], ◌∷◌, ◌++◌, length, take, drop, arith, append-nil, append_assoc, length-append}
-use Rattle.lt_terms.specs.Bytes.{Image}
+use Rattle.std.proofs.Common.{◌≡◌, ℕ, ◌+◌, ◌≤◌, refl, sym, ap, subst, ◌∙◌, List, [], ◌∷◌, ◌++◌, length, take, drop, arith, append-nil, append_assoc, length-append}
+use Rattle.std.proofs.Math.Seq.{take-append-add, drop-append-add}
+use Rattle.std.proofs.lemmas.List.{take-append-le, drop-append-le, take-append-drop}
 use Rattle.lt_terms.specs.Items.{Item}
 use Rattle.lt_device.specs.State as told
 use Rattle.lt_device.proofs.Runs.{begins, joins, weakens}
-use Rattle.lt_language.specs.Machine.{State}
-use Rattle.lt_image.specs.Standing.{Stands, IsPrefix, after_writes}
-use Rattle.lt_store.specs.Open.{IsOpen, StoreView}
+use Rattle.lt_format.specs.declared.geometry.Geometry.{Geometry}
+use Rattle.lt_language.specs.Machine.{State, nothing_yet}
+use Rattle.lt_image.specs.Standing.{IsPrefix, after_writes}
+use Rattle.lt_image.proofs.KeptLaws.{writes-joined}
+use Rattle.lt_image.proofs.PrefixLaws.{prefix-fewer, prefix-later, prefix-longer}
+use Rattle.lt_store.specs.Open.{IsOpen, IsRootOnly, Rests, StoreView, state_of}
 use Rattle.lt_store.specs.Going.{Survives, Goes, appended}
+use Rattle.lt_store.specs.Making.{IsFresh}
 use Rattle.lt_store.specs.Flushing.{Stays}
 use Rattle.lt_store.proofs.GroupLaws.{after_none, prefix-none}
-
-take-short : (n : ℕ) (xs ys : List Item) → n ≤ length xs → take n (xs ++ ys) ≡ take n xs
-take-short zero xs ys le = refl
-take-short (suc n) [] ys le = absurd (omega arith)
-take-short (suc n) (x ∷ xs) ys le = ap (λ zs. x ∷ zs) (take-short n xs ys (omega arith))
-
-drop-short : (n : ℕ) (xs ys : List Item) → n ≤ length xs → drop n (xs ++ ys) ≡ drop n xs ++ ys
-drop-short zero xs ys le = refl
-drop-short (suc n) [] ys le = absurd (omega arith)
-drop-short (suc n) (x ∷ xs) ys le = drop-short n xs ys (omega arith)
-
--- a prefix of these writes is one of these and more
-pub prefix-more : (image : Image) (d : State) (writes more : List Item) (k : ℕ) → IsPrefix image d writes k → IsPrefix image d (writes ++ more) k
-prefix-more image d writes more k p = record {
-  count = p.count;
-  at_least = p.at_least;
-  at_most = let n : length (writes ++ more) ≡ length writes + length more = length-append writes more in omega (arith, n, p.at_most);
-  stands = subst (λ xs. Stands image (after_writes d xs)) (sym (take-short p.count writes more p.at_most)) p.stands;
-}
 
 -- nothing happened
 pub goes-none : (v : StoreView) (d : State) (s : told.State) → IsOpen v d s → Goes v [] v d s s
@@ -65,12 +51,12 @@ goes-append v w item d old new g =
     let p : List Item = v.log.pending in
     let none : p ++ [] ≡ p = append-nil p in
     let within : g.sure ≤ length p = let n : length (p ++ []) ≡ length p = ap length none in omega (arith, n, g.within) in
-    let taken : take g.sure (p ++ item ∷ []) ≡ take g.sure (p ++ []) = take-short g.sure p (item ∷ []) within ∙ sym (take-short g.sure p [] within) in
+    let taken : take g.sure (p ++ item ∷ []) ≡ take g.sure (p ++ []) = take-append-le g.sure p (item ∷ []) within ∙ sym (take-append-le g.sure p [] within) in
     let o = g.opened in
     record {
       sure = g.sure;
       within = let n : length (p ++ item ∷ []) ≡ length p + 1 = length-append p (item ∷ []) in omega (arith, n, within);
-      pending = ap (λ xs. xs ++ item ∷ []) (g.pending ∙ ap (drop g.sure) none) ∙ sym (drop-short g.sure p (item ∷ []) within);
+      pending = ap (λ xs. xs ++ item ∷ []) (g.pending ∙ ap (drop g.sure) none) ∙ sym (drop-append-le g.sure p (item ∷ []) within);
       opened = subst (λ xs. IsOpen (appended w item) (after_writes d xs) new) (sym taken) (record {
         rest = o.rest;
         named = o.named;
@@ -81,5 +67,68 @@ goes-append v w item d old new g =
         filters = o.filters;
         root_only = o.root_only;
       });
-      survives = weakens g.survives (λ left p'. subst (λ xs. IsPrefix left d (xs ++ item ∷ []) 0) none (prefix-more left d (p ++ []) (item ∷ []) 0 p'));
+      survives = weakens g.survives (λ left p'. subst (λ xs. IsPrefix left d (xs ++ item ∷ []) 0) none (prefix-longer left d (p ++ []) (item ∷ []) 0 p'));
     }
+
+-- ---- one call behind another
+
+module _ (v w : StoreView) (a : List Item) (d : State) (old mid : told.State) (g : Goes v a w d old mid) where
+  -- what the first call made durable
+  sure : List Item
+  sure = take g.sure (v.log.pending ++ a)
+
+  -- the writes of both calls: what is durable between them, what is pending there, and what the second accepted
+  joined : (b : List Item) → v.log.pending ++ (a ++ b) ≡ sure ++ (w.log.pending ++ b)
+  unfolding sure
+  joined b =
+      let all : List Item = v.log.pending ++ a in
+      sym (append_assoc v.log.pending a b)
+      ∙ ap (λ xs. xs ++ b) (sym (take-append-drop g.sure all))
+      ∙ append_assoc (take g.sure all) (drop g.sure all) b
+      ∙ ap (λ xs. take g.sure all ++ (xs ++ b)) (sym g.pending)
+
+  -- each image since the start of the first call
+  both-survive : (b : List Item) (new : told.State) → Survives w b (after_writes d sure) mid new → Survives v (a ++ b) d old new
+  unfolding sure
+  both-survive b new run =
+      joins run
+      (weakens g.survives (λ left p. subst (λ xs. IsPrefix left d xs 0) (append_assoc v.log.pending a b) (prefix-longer left d (v.log.pending ++ a) b 0 p)))
+      (λ left p. subst (λ xs. IsPrefix left d xs 0) (sym (joined b))
+      (prefix-fewer left d (sure ++ (w.log.pending ++ b)) 0 (length sure + 0) (omega arith) (prefix-later left d sure (w.log.pending ++ b) 0 p)))
+
+  -- a call that failed behind one that went on
+  pub breaks-behind : (new : told.State) → Survives w [] (after_writes d (take g.sure (v.log.pending ++ a))) mid new → Survives v a d old new
+  unfolding sure
+  breaks-behind new run = subst (λ xs. Survives v xs d old new) (append-nil a) (both-survive [] new run)
+
+  -- the state that the store answers for has the accepted writes more
+  pub goes-state : state_of w (after_writes d (take g.sure (v.log.pending ++ a))) ≡ after_writes (state_of v d) a
+  goes-state =
+      let all : List Item = v.log.pending ++ a in
+      ap (after_writes (after_writes d (take g.sure all))) g.pending
+      ∙ writes-joined d (take g.sure all) (drop g.sure all)
+      ∙ ap (after_writes d) (take-append-drop g.sure all)
+      ∙ sym (writes-joined d v.log.pending a)
+
+  -- a call that went on behind one that did
+  pub goes-behind : (x : StoreView) (b : List Item) (new : told.State) → Goes w b x (after_writes d (take g.sure (v.log.pending ++ a))) mid new → Goes v (a ++ b) x d old new
+  unfolding sure
+  goes-behind x b new h =
+      let rest : List Item = w.log.pending ++ b in
+      let n : ℕ = length sure + h.sure in
+      let whole : v.log.pending ++ (a ++ b) ≡ sure ++ rest = joined b in
+      record {
+        sure = n;
+        within = let long : length (sure ++ rest) ≡ length sure + length rest = length-append sure rest in let same : length (v.log.pending ++ (a ++ b)) ≡ length (sure ++ rest) = ap length whole in omega (arith, long, same, h.within);
+        pending = h.pending ∙ sym (drop-append-add sure rest h.sure) ∙ ap (drop n) (sym whole);
+        opened = subst (λ xs. IsOpen x (after_writes d xs) new) (sym (ap (take n) whole ∙ take-append-add sure rest h.sure)) (subst (λ e. IsOpen x e new) (writes-joined d sure (take h.sure rest)) h.opened);
+        survives = both-survive b new h.survives;
+      }
+
+-- ---- devices at rest
+
+pub open-rests : (v : StoreView) (d : State) (s : told.State) → IsOpen v d s → Rests d s
+open-rests v d s o = record { rest = o.rest; root_only = subst (λ n. IsRootOnly n.manifest.trie) (sym o.named) o.root_only }
+
+pub fresh-rests : (g : Geometry) (extents : ℕ) (s : told.State) → IsFresh g extents s → Rests nothing_yet s
+fresh-rests g extents s fresh = record { rest = fresh.rest; root_only = subst (λ n. IsRootOnly n.manifest.trie) (sym fresh.named) (record { only = refl }) }

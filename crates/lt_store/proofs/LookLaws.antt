@@ -1,11 +1,15 @@
--- A look-up that answers a damaged block read it, and it spells no bucket.
-use Rattle.std.proofs.Common.{◌≡◌, ℕ, ◌+◌, ◌<◌, refl, sym, subst, List, Option, Some, None, Err, Result}
-use Rattle.std.specs.Option.{option_map}
-use Rattle.lt_terms.specs.Bytes.{Image}
-use Rattle.lt_terms.specs.Items.{Item}
-use Rattle.lt_terms.specs.Hashes.{home_column}
-use Rattle.lt_tables.specs.Bucket.{Bucket, Look, here, moved, absent, look_in_1, look_on, bucket_of}
+-- A look-up that answers a damaged block read it, and it spells no bucket; an item that it answers is valid.
+use Rattle.std.proofs.Common.{◌≡◌, ℕ, ◌+◌, ◌<◌, refl, sym, subst, List, [], ◌∷◌, Bool, true, false, cond, Option, Some, None, Ok, Err, Result}
+use Rattle.std.specs.List.{find}
+use Rattle.std.specs.Option.{option_map, option_map_or}
+use Rattle.std.specs.Prelude.{IsTrue, nat_le}
+use Rattle.lt_terms.specs.Bytes.{Image, same_bytes}
+use Rattle.lt_terms.specs.Items.{Item, is_valid}
+use Rattle.lt_terms.specs.Hashes.{home_column, key_suffix}
+use Rattle.lt_tables.specs.declared.Sends.{Sends}
+use Rattle.lt_tables.specs.Bucket.{Bucket, Look, here, moved, absent, look_in_1, look_of, look_on, bucket_of, sent_to}
 use Rattle.lt_tables.proofs.HashLaws.{home_column-small}
+use Rattle.lt_tables.proofs.ValidLaws.{AllValid, items_on-valid}
 use Rattle.lt_htable.specs.declared.faults.LookFault.{LookFault}
 use Rattle.lt_htable.specs.declared.faults.LookFault.TheVariants.{Damaged}
 use Rattle.lt_htable.specs.Reading.{IsRead, IsNoBucket, IsLookedUp, at_last, at_home}
@@ -45,4 +49,58 @@ looked_up-damaged shown first key block l = by_home (look_on l.home key) refl l.
     by_home None e h = damaged_at shown first block (home_column key) key l.home (home_column-small key) (same block (first + home_column key) h) l.home_read e
     by_home (Some (here v)) e h = cc
     by_home (Some (moved c)) e h = by_last c (look_on l.target key) e refl h
+    by_home (Some absent) e h = cc
+
+-- ---- a look-up that answers an item read it
+
+found_valid : (test : Item → Bool) (items : List Item) (v : Item) → AllValid items → find test items ≡ Some v → IsTrue (is_valid v)
+found_valid test [] v all h = cc
+found_valid test (x ∷ xs) v all h = by_test (test x) (found_valid test xs v all.1) h
+  where
+    one : ◌≡◌ {A = Option Item} (Some x) (Some v) → x ≡ v
+    one e = cc
+
+    by_test : (b : Bool) → (find test xs ≡ Some v → IsTrue (is_valid v)) → cond b (Some x) (find test xs) ≡ Some v → IsTrue (is_valid v)
+    by_test true later e = subst (λ w. IsTrue (is_valid w)) (one e) all.0
+    by_test false later e = later e
+
+-- what a page answers is valid, whatever it holds
+here_valid : (page key : List ℕ) (v : Item) → look_on page key ≡ Some (here v) → IsTrue (is_valid v)
+here_valid page key v h = by_bucket (bucket_of page) (items_on-valid page) h
+  where
+    one : (w : Item) → ◌≡◌ {A = Option Look} (Some (here w)) (Some (here v)) → w ≡ v
+    one w e = cc
+
+    not_sent : (sends : Option Sends) (suffix : ℕ) → Some (sent_to sends suffix) ≡ Some (here v) → ⊥
+    not_sent None suffix e = cc
+    not_sent (Some s) suffix e = by_mark (nat_le s.mark suffix) e
+      where
+        by_mark : (b : Bool) → Some (cond b (moved s.target) absent) ≡ Some (here v) → ⊥
+        by_mark true e = cc
+        by_mark false e = cc
+
+    by_found : (b : Bucket) (o : Option Item) → find (λ (item : Item). same_bytes item.key key) b.items ≡ o → AllValid b.items → Some (look_of o (sent_to b.sends (key_suffix key))) ≡ Some (here v) → IsTrue (is_valid v)
+    by_found b None is all e = absurd (not_sent b.sends (key_suffix key) e)
+    by_found b (Some w) is all e = subst (λ x. IsTrue (is_valid x)) (one w e) (found_valid (λ (item : Item). same_bytes item.key key) b.items w all is)
+
+    by_bucket : (o : Option Bucket) → AllValid (option_map_or (λ (b : Bucket). b.items) o []) → option_map (look_in_1 key) o ≡ Some (here v) → IsTrue (is_valid v)
+    by_bucket None all e = cc
+    by_bucket (Some b) all e = by_found b (find (λ (item : Item). same_bytes item.key key) b.items) refl all e
+
+pub looked_up-valid : (shown : Option Image) (first : ℕ) (key : List ℕ) (v : Item) → IsLookedUp shown first key (Ok (Some v)) → IsTrue (is_valid v)
+looked_up-valid shown first key v l = by_home (look_on l.home key) refl l.is
+  where
+    same : (w : Item) → ◌≡◌ {A = Result (Option Item) LookFault} (Ok (Some v)) (Ok (Some w)) → w ≡ v
+    same w h = cc
+
+    by_last : (block : ℕ) (o : Option Look) → look_on l.target key ≡ o → Ok (Some v) ≡ at_last block o → IsTrue (is_valid v)
+    by_last block None e h = cc
+    by_last block (Some (here w)) e h = subst (λ x. IsTrue (is_valid x)) (same w h) (here_valid l.target key w e)
+    by_last block (Some (moved d)) e h = cc
+    by_last block (Some absent) e h = cc
+
+    by_home : (o : Option Look) → look_on l.home key ≡ o → Ok (Some v) ≡ at_home first (home_column key) o (look_on l.target key) → IsTrue (is_valid v)
+    by_home None e h = cc
+    by_home (Some (here w)) e h = subst (λ x. IsTrue (is_valid x)) (same w h) (here_valid l.home key w e)
+    by_home (Some (moved c)) e h = by_last (first + c) (look_on l.target key) refl h
     by_home (Some absent) e h = cc

@@ -71,13 +71,19 @@ rest-whole s d b r damaged =
 same_log : (g h : Geometry) (image : Image) (a b w x : ℕ) → g ≡ h → a ≡ b → w ≡ x → log_groups g image a w ≡ log_groups h image b x
 same_log g h image a b w x e f k = ap (λ z. log_groups z image a w) e ∙ ap (λ z. log_groups h image z w) f ∙ ap (λ z. log_groups h image b z) k
 
--- a store that is what its device's blocks open as is open on a device at rest
+-- a store that is what its device's blocks open as has the manifest at rest
+pub rest-named : (v : StoreView) (s : State) (d : told.State) (r : AtRest s d) → ForSome d.shown (Reads v) → r.named ≡ v.named
+rest-named v s d r reads =
+    let q : Reads v r.image = reads r.image r.shown in
+    let parts = opens-is r.image q.opened q.opens in
+    ok_same r.named q.opened.named (sym r.names.read ∙ parts.named) ∙ sym q.named_is
+
+-- and is open on a device at rest
 pub rest-open : (v : StoreView) (s : State) (d : told.State) (r : AtRest s d) → IsRootOnly r.named.manifest.trie → ForSome d.shown (Reads v) → IsOpen v s d
 rest-open v s d r only reads =
     let q : Reads v r.image = reads r.image r.shown in
     let parts = opens-is r.image q.opened q.opens in
-    let same : r.named ≡ q.opened.named = ok_same r.named q.opened.named (sym r.names.read ∙ parts.named) in
-    let here : r.named ≡ v.named = same ∙ sym q.named_is in
+    let here : r.named ≡ v.named = rest-named v s d r reads in
     record {
       rest = r;
       named = here;

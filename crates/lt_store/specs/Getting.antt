@@ -1,7 +1,7 @@
 -- What a get finds, and where it looks.
-use Rattle.std.specs.Prelude.{◌≡◌, ℕ, ◌+◌, ◌<◌, Bool, true, false, List, Option, Some, None, Result, Ok, Err, length, take, drop, min, count_by, slice_index, slice_index_or, IsTrue, if◌then◌else◌}
+use Rattle.std.specs.Prelude.{◌≡◌, ℕ, ◌+◌, ◌<◌, Bool, true, false, List, Option, Some, None, Result, Ok, Err, length, take, drop, count_by, slice_index, slice_index_or, IsTrue, if◌then◌else◌}
 use Rattle.std.specs.Option.{option_map_or, is_some}
-use Rattle.lt_terms.specs.Bytes.{Image, block_len}
+use Rattle.lt_terms.specs.Bytes.{Image}
 use Rattle.lt_terms.specs.Items.{Item}
 use Rattle.lt_terms.specs.Hashes.{home_column}
 use Rattle.lt_page.specs.Page.{filled}
@@ -68,17 +68,13 @@ pub record IsReadable (g : Geometry) (kept : List (Option (List ℕ))) (image : 
   pub placed : IsPlaced (newest (items_at g image x)) (extent_in g image x)
   pub skipped : may_hold kept key x ≡ false → newest_of key (items_at g image x) ≡ None
 
--- how many bytes of a value a page has room for
-abbrev pub shown_len : List ℕ → ℕ
-shown_len value = min (length value) block_len
-
--- the page with a value at its front, as far as there is room
+-- the page with a value at its front
 abbrev pub with_value : List ℕ → List ℕ → List ℕ
-with_value page value = filled page 0 (take (shown_len value) value)
+with_value page value = filled page 0 value
 
 -- what is told of an item, and the page with its value, where it has one
 abbrev pub version_of : Item → Version
-version_of item = if is_put item then Value (shown_len item.value) else Deleted
+version_of item = if is_put item then Value (length item.value) else Deleted
 
 abbrev pub page_with : Item → List ℕ → List ℕ
 page_with item page = if is_put item then with_value page item.value else page

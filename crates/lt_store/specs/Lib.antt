@@ -1,6 +1,7 @@
 pub mod Acting
 pub mod Building
 pub mod Committing
+pub mod Damage
 pub mod Faults
 pub mod Flushing
 pub mod Getting

@@ -1,6 +1,7 @@
 -- What making a store leaves.
-use Rattle.std.specs.Prelude.{◌≡◌, ℕ, ◌<◌, Some, Ok}
-use Rattle.lt_terms.specs.Bytes.{Image}
+use Rattle.std.specs.Prelude.{◌≡◌, ◌≢◌, ℕ, ◌<◌, Some, Ok}
+use Rattle.std.specs.Option.{ForSome}
+use Rattle.lt_terms.specs.Bytes.{Image, block_at, zero_block}
 use Rattle.lt_device.specs.State as told
 use Rattle.lt_language.specs.Machine.{nothing_yet}
 use Rattle.lt_format.specs.declared.geometry.Geometry.{Geometry}
@@ -18,6 +19,13 @@ use Rattle.lt_store.specs.Open.{AtRest}
 abbrev pub IsSameFault : CommitFault → InitFault → Type 0
 IsSameFault commits.Device fault = fault ≡ makes.Device
 IsSameFault commits.NoMemory fault = fault ≡ makes.NoMemory
+
+-- where the device tells what it reads, nothing stands on block 0; or something does
+abbrev pub IsVacant : told.State → Type 0
+IsVacant device = ForSome device.shown (λ image. block_at image 0 ≡ zero_block)
+
+abbrev pub IsOccupied : told.State → Type 0
+IsOccupied device = ForSome device.shown (λ image. block_at image 0 ≢ zero_block)
 
 -- the block is the superblock's, the manifest's or one of the first log area
 abbrev pub InFresh : Geometry → ℕ → Type 0

@@ -32,6 +32,11 @@ pub record AtRest (s : State) (device : told.State) : Type 0 where
 pub record IsRootOnly (trie : Trie) : Type 0 where
   pub only : IsTrue (has_only_root trie)
 
+-- at rest, and no node but the root has tables
+pub record Rests (s : State) (device : told.State) : Type 0 where
+  pub rest : AtRest s device
+  pub root_only : IsRootOnly rest.named.manifest.trie
+
 -- a store as its calls see it; `kept` has the filter blocks of tables, by extent
 pub record StoreView : Type 0 where
   pub is_up : Bool
@@ -61,6 +66,10 @@ pub record IsOpen (v : StoreView) (durable : State) (device : told.State) : Type
 abbrev pub state_of : StoreView → State → State
 state_of v durable = after_writes durable v.log.pending
 
+-- how many extents the store has
+abbrev pub extents_of : StoreView → ℕ
+extents_of v = v.named.manifest.header.extents
+
 -- how many blocks the store uses
 abbrev pub blocks_of : StoreView → ℕ
-blocks_of v = blocks_needed v.named.geometry v.named.manifest.header.extents
+blocks_of v = blocks_needed v.named.geometry (extents_of v)

@@ -10,14 +10,14 @@ ghost use Rattle.lt_device.specs.Moments.{MayLeave};
 ghost use Rattle.lt_device.specs.Reads.{CountsAtMost};
 ghost use Rattle.lt_format.specs.Log.{group_room};
 ghost use Rattle.lt_format.specs.Trie.{table_total};
-ghost use Rattle.lt_htable.specs.Reading.{IsNoBucket};
 ghost use Rattle.lt_image.specs.Standing.{after_writes};
 ghost use Rattle.lt_language.specs.Machine.{State, most_writes};
 ghost use Rattle.lt_store.specs.Acting.{IsStep, KeepsOut, MayAct, accepted_as, asked_by, command_of, only_asks, reply_of, write_of};
 ghost use Rattle.lt_store.specs.Committing.{committed};
+ghost use Rattle.lt_store.specs.Damage.{StopsGet};
 ghost use Rattle.lt_store.specs.Getting.{IsBucketOf};
 ghost use Rattle.lt_store.specs.Going.{Goes, Survives};
-ghost use Rattle.lt_store.specs.Open.{IsOpen, blocks_of, root_pile, state_of};
+ghost use Rattle.lt_store.specs.Open.{IsOpen, blocks_of, extents_of, root_pile, state_of};
 ghost use Rattle.lt_store.specs.Taking.{is_due, IsFull, IsFullImage};
 ghost use Rattle.lt_store.specs.View.{view_of};
 
@@ -68,7 +68,7 @@ impl Store {
 
         // The command and its outcome are a step of the map machine.
         ensures step { IfOk result (λ outcome. (durable : State) → IsOpen (view_of self.old) durable (D.state device.old)
-            → IsStep (view_of self.old).named.manifest.header.extents (state_of (view_of self.old) durable) (command_of event.entry) (reply_of outcome out.new) (after_writes (state_of (view_of self.old) durable) (accepted_as outcome (write_of event.entry)))) }
+            → IsStep (extents_of (view_of self.old)) (state_of (view_of self.old) durable) (command_of event.entry) (reply_of outcome out.new) (after_writes (state_of (view_of self.old) durable) (accepted_as outcome (write_of event.entry)))) }
 
         // The store goes on, with the write that was taken; and whatever it answers, nothing is lost at any moment.
         ensures goes { IfOk result (λ outcome. (durable : State) → IsOpen (view_of self.old) durable (D.state device.old)
@@ -96,13 +96,16 @@ impl Store {
         ensures same_number { OnErr result (self.new.is_up ≡ true → (view_of self.new).writes ≡ (view_of self.old).writes) }
         ensures page { KeepsOut result out.old out.new }
 
+        ensures value { (n : ℕ) → result ≡ Ok (Outcome.Value n) → n ≤ 3000 }
         ensures memory { IsErrOf result WriteFault.NoMemory → IsSome (write_of event.entry) }
-        ensures damaged { (b : ℕ) → IsErrOf result (WriteFault.Damaged b) → IsTrue (only_asks event.entry) × IsNoBucket (D.state device.old).shown b }
+        ensures damaged { (b : ℕ) → IsErrOf result (WriteFault.Damaged b) → IsTrue (only_asks event.entry) × StopsGet (D.state device.old) b }
         ensures damaged_block { (b : ℕ) → IsErrOf result (WriteFault.Damaged b) → IsBucketOf (view_of self.old).named.geometry (root_pile (view_of self.old).named.manifest.trie) b }
+        ensures sound { (b : ℕ) (durable : State) → IsOpen (view_of self.old) durable (D.state device.old) → IsErrOf result (WriteFault.Damaged b) → ⊥ }
         ensures cause { IsErrOf result WriteFault.Device → Rose (D.faults device.old) (D.faults device.new) }
         ensures later { D.faults device.old ≤ D.faults device.new }
         ensures up { (self.new.is_up ≡ false) ↔ (IsErrOf result WriteFault.Device × (only_asks event.entry ≡ false)) }
         ensures blocks { self.new.is_up ≡ true → blocks_of (view_of self.new) ≡ blocks_of (view_of self.old) }
+        ensures extents { self.new.is_up ≡ true → extents_of (view_of self.new) ≡ extents_of (view_of self.old) }
         ensures size { D.blocks device.new ≡ D.blocks device.old }
         ensures count { CountsAtMost (2 * asked_by (view_of self.old) event.entry) (D.reads device.old) (D.reads device.new) }
     {

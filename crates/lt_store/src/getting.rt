@@ -1,7 +1,8 @@
 //! Reading the value of a key.
 
-ghost use Rattle.std.specs.Prelude.{◌≡◌, ℕ, ◌+◌, ◌*◌, ◌<◌, ◌≤◌, List, Some, true, IsErrOf, IsTrue, count_by};
+ghost use Rattle.std.specs.Prelude.{◌≡◌, ℕ, ◌+◌, ◌*◌, ◌<◌, ◌≤◌, List, Ok, Some, true, IfOk, IsErrOf, IsTrue, count_by, length};
 ghost use Rattle.std.specs.List.{AllByRecursion};
+ghost use Rattle.std.specs.Option.{ForSome};
 ghost use Rattle.lt_terms.specs.Bytes.{Image};
 ghost use Rattle.lt_terms.specs.Causes.{Rose};
 ghost use Rattle.lt_terms.specs.Items as terms;
@@ -16,7 +17,7 @@ ghost use Rattle.lt_tables.specs.Table.{blocks_from, IsPlaced};
 ghost use Rattle.lt_format.specs.Layout.{extent_block};
 ghost use Rattle.lt_htable.specs.Reading.{IsNoBucket};
 ghost use Rattle.lt_image.specs.Versions.{pile_items};
-ghost use Rattle.lt_store.specs.Getting.{Answers, KeepsPage, KeepsUnless, IsAnswer, IsBucketOf, IsReadable, HoldsKey, asked, asked_from, may_hold, shown_len, with_value, version_of, page_with, value_len};
+ghost use Rattle.lt_store.specs.Getting.{Answers, KeepsPage, KeepsUnless, IsAnswer, IsBucketOf, IsReadable, HoldsKey, asked, asked_from, may_hold, with_value, version_of, page_with, value_len};
 ghost use Rattle.lt_store.specs.Open.{IsOpen, blocks_of, root_pile, state_of};
 ghost use Rattle.lt_store.specs.View.{view_of};
 
@@ -58,10 +59,11 @@ impl Store {
         ensures answer { (durable : State) → IsOpen (view_of self.old) durable (D.state device.old)
             → Answers out.new (value_at (state_of (view_of self.old) durable).map key.now) result }
 
-        // Whatever the device tells, a valid item of the memory table decides, and the device is not asked.
+        // Whatever the device tells, an item of the memory table decides, and the device is not asked.
         ensures in_memory { (item : terms.Item) → newest_of key.now (view_of self.old).memory ≡ Some item
-            → (device.new ≡ device.old) × (IsTrue (is_valid item) → Answers out.new (value_of (Some item)) result) }
+            → (device.new ≡ device.old) × Answers out.new (value_of (Some item)) result }
 
+        ensures short { (n : ℕ) → result ≡ Ok (Some n) → n ≤ 3000 }
         ensures page { KeepsPage result out.old out.new }
         ensures unchanged { view_of self.new ≡ view_of self.old }
         ensures damaged { (b : ℕ) → IsErrOf result (LookFault.Damaged b) → IsNoBucket (D.state device.old).shown b }
@@ -111,6 +113,7 @@ fn search<D: Device>(
     ensures answer { (image : Image) → (D.state device.old).shown ≡ Some image
         → AllByRecursion (IsReadable geometry.now filters.now image key.now) tables.now
         → IsAnswer (newest_of key.now (pile_items geometry.now image tables.now)) result out.old out.new }
+    ensures short { IfOk result (λ version. ForSome (value_len version) (λ n. n ≤ 3000)) }
     ensures page { KeepsUnless result out.old out.new }
     ensures damaged { (b : ℕ) → IsErrOf result (LookFault.Damaged b) → IsNoBucket (D.state device.old).shown b }
     ensures damaged_block { (b : ℕ) → IsErrOf result (LookFault.Damaged b) → IsBucketOf geometry.now tables.now b }
@@ -164,6 +167,7 @@ fn look_into<D: Device>(
     requires parts { parts.now ≡ parts_of key.now }
     ensures answer { (image : Image) (items : List terms.Item) → (D.state device.old).shown ≡ Some image → IsPlaced items (blocks_from image first)
         → IsAnswer (newest_of key.now items) result out.old out.new }
+    ensures short { IfOk result (λ version. ForSome (value_len version) (λ n. n ≤ 3000)) }
     ensures page { KeepsUnless result out.old out.new }
     ensures damaged { (b : ℕ) → IsErrOf result (LookFault.Damaged b) → IsNoBucket (D.state device.old).shown b }
     ensures damaged_block { (b : ℕ) → IsErrOf result (LookFault.Damaged b) → (column : ℕ) × (column < 64) × (b ≡ first + column) }
@@ -179,10 +183,12 @@ fn look_into<D: Device>(
     }
 }
 
-/// Puts the value of an item to the front of a page, as far as there is room; of a delete nothing.
+/// Puts the value of an item to the front of a page; of a delete nothing.
 fn show(item: &ItemView<'_>, out: &mut Page) -> Version
+    requires { IsTrue (is_valid (item_of item.now)) }
     ensures version { result ≡ version_of (item_of item.now) }
     ensures page { out.new ≡ page_with (item_of item.now) out.old }
+    ensures short { ForSome (value_len (Some result)) (λ n. n ≤ 3000) }
 {
     match item.kind {
         Kind::Put => Version::Value(put_front(item.value, out)),
@@ -190,14 +196,14 @@ fn show(item: &ItemView<'_>, out: &mut Page) -> Version
     }
 }
 
-/// Puts a value to the front of a page, as far as there is room, and answers how many bytes it put.
+/// Puts a value to the front of a page, and answers its length.
 fn put_front(value: &[u8], out: &mut Page) -> u16
-    ensures len { result ≡ shown_len value.now }
+    requires { length value.now ≤ 3000 }
+    ensures len { result ≡ length value.now }
     ensures page { out.new ≡ with_value out.old value.now }
 {
-    let len = value.len().min(Page::LEN);
-    out.fill_from(0, &value[..len]);
-    len as u16
+    out.fill_from(0, value);
+    value.len() as u16
 }
 
 fn value_len(version: Option<Version>) -> Option<u16>

@@ -8,7 +8,7 @@ ghost use Rattle.lt_device.specs.Moments.{ConfinedTo};
 ghost use Rattle.lt_device.specs.State.{IsFit, synced, written};
 ghost use Rattle.lt_format.specs.Layout.{is_geometry, blocks_needed, superblock, gate_page};
 ghost use Rattle.lt_format.specs.Snapshot.{extents_stand};
-ghost use Rattle.lt_store.specs.Making.{InFresh, HasRegions, IsFresh};
+ghost use Rattle.lt_store.specs.Making.{InFresh, HasRegions, IsFresh, IsOccupied, IsVacant};
 
 use super::faults::InitFault;
 use lt_device::Device;
@@ -38,14 +38,14 @@ pub fn init<D: Device>(
     // Where the device tells what a crash may leave.
     ensures fresh { OnOk result ((flags : List Bool) → (D.state device.new).unsynced ≡ Some flags
         → IsFresh (record { levels = levels; slots = slots }) extents (D.state device.new)) }
-    ensures vacant { OnOk result (ForSome (D.state device.old).shown (λ image. block_at image 0 ≡ zero_block)) }
+    ensures vacant { OnOk result (IsVacant (D.state device.old)) }
     ensures room { OnOk result (blocks_needed (record { levels = levels; slots = slots }) extents ≤ D.blocks device.old) }
 
     ensures small { D.blocks device.old < blocks_needed (record { levels = levels; slots = slots }) extents
         → IsErrOf result (InitFault.TooSmall (blocks_needed (record { levels = levels; slots = slots }) extents) (D.blocks device.old)) × (device.new ≡ device.old) }
     ensures too_small { (needed has : ℕ) → IsErrOf result (InitFault.TooSmall needed has)
         → D.blocks device.old < blocks_needed (record { levels = levels; slots = slots }) extents }
-    ensures occupied { IsErrOf result InitFault.Occupied → ForSome (D.state device.old).shown (λ image. block_at image 0 ≢ zero_block) }
+    ensures occupied { IsErrOf result InitFault.Occupied → IsOccupied (D.state device.old) }
     ensures unwritten { IsErrOf result InitFault.Occupied → D.state device.new ≡ D.state device.old }
     ensures kept { ForSome (D.state device.old).shown (λ image. block_at image 0 ≢ zero_block → D.state device.new ≡ D.state device.old) }
 

@@ -18,7 +18,8 @@ ghost use Rattle.lt_format.specs.Snapshot.{IsManifest};
 ghost use Rattle.lt_format.specs.Trie.{named};
 ghost use Rattle.lt_redo.specs.Opening.{HasItems};
 ghost use Rattle.lt_image.specs.Opening.{open_image};
-ghost use Rattle.lt_store.specs.Open.{AtRest, IsRootOnly, IsOpen, root_pile, blocks_of};
+ghost use Rattle.lt_store.specs.Damage.{StopsOpening};
+ghost use Rattle.lt_store.specs.Open.{AtRest, IsOpen, Rests, root_pile, blocks_of, extents_of};
 ghost use Rattle.lt_store.specs.Reading.{Reads, KeepsFilters, IsBelowExtents, Assembles, log_at};
 ghost use Rattle.lt_store.specs.View.{view_of};
 
@@ -57,9 +58,9 @@ impl Store {
         ensures reads { IfOk result (λ store. ForSome (D.state device.old).shown (Reads (view_of store))) }
 
         // On a device at rest it is open for what the device stands for.
-        ensures opened { IfOk result (λ store. (s : State) → (r : AtRest s (D.state device.old)) → IsRootOnly r.named.manifest.trie → IsOpen (view_of store) s (D.state device.new)) }
+        ensures opened { IfOk result (λ store. (s : State) (r : Rests s (D.state device.old)) → IsOpen (view_of store) s (D.state device.new) × (extents_of (view_of store) ≡ r.rest.named.manifest.header.extents)) }
 
-        ensures damaged { (b : ℕ) → IsErrOf result (OpenFault.Damaged b) → ForSome (D.state device.old).shown (λ image. open_image image ≡ Err b) }
+        ensures damaged { (b : ℕ) → IsErrOf result (OpenFault.Damaged b) → StopsOpening (D.state device.old) b }
         ensures at_rest { (s : State) → AtRest s (D.state device.old) → (b : ℕ) → IsErrOf result (OpenFault.Damaged b) → ⊥ }
         ensures damaged_block { (b : ℕ) → IsErrOf result (OpenFault.Damaged b) → IsBelowExtents b }
         ensures cause { IsErrOf result OpenFault.Device → Rose (D.faults device.old) (D.faults device.new) }

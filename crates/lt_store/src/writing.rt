@@ -11,7 +11,7 @@ ghost use Rattle.lt_language.specs.Machine.{State, delete_of, most_writes, put_o
 ghost use Rattle.lt_format.specs.Log.{group_room};
 ghost use Rattle.lt_store.specs.Flushing.{Stays};
 ghost use Rattle.lt_store.specs.Going.{Goes, Survives, appended};
-ghost use Rattle.lt_store.specs.Open.{IsOpen, blocks_of};
+ghost use Rattle.lt_store.specs.Open.{IsOpen, blocks_of, extents_of};
 ghost use Rattle.lt_store.specs.Taking.{accepted_by, is_due, IsFull, IsFullImage};
 ghost use Rattle.lt_store.specs.View.{view_of};
 
@@ -72,6 +72,7 @@ impl Store {
         ensures undamaged { (b : ℕ) → IsErrOf result (WriteFault.Damaged b) → ⊥ }
         ensures up { (self.new.is_up ≡ false) ↔ IsErrOf result WriteFault.Device }
         ensures blocks { self.new.is_up ≡ true → blocks_of (view_of self.new) ≡ blocks_of (view_of self.old) }
+        ensures extents { self.new.is_up ≡ true → extents_of (view_of self.new) ≡ extents_of (view_of self.old) }
         ensures size { D.blocks device.new ≡ D.blocks device.old }
         ensures count { D.reads device.new ≡ D.reads device.old }
         ensures later { D.faults device.old ≤ D.faults device.new }
@@ -112,6 +113,7 @@ impl Store {
         ensures undamaged { (b : ℕ) → IsErrOf result (WriteFault.Damaged b) → ⊥ }
         ensures up { (self.new.is_up ≡ false) ↔ IsErrOf result WriteFault.Device }
         ensures blocks { self.new.is_up ≡ true → blocks_of (view_of self.new) ≡ blocks_of (view_of self.old) }
+        ensures extents { self.new.is_up ≡ true → extents_of (view_of self.new) ≡ extents_of (view_of self.old) }
         ensures size { D.blocks device.new ≡ D.blocks device.old }
         ensures count { D.reads device.new ≡ D.reads device.old }
         ensures later { D.faults device.old ≤ D.faults device.new }
@@ -151,6 +153,7 @@ impl Store {
         ensures undamaged { (b : ℕ) → IsErrOf result (WriteFault.Damaged b) → ⊥ }
         ensures up { (self.new.is_up ≡ false) ↔ IsErrOf result WriteFault.Device }
         ensures blocks { self.new.is_up ≡ true → blocks_of (view_of self.new) ≡ blocks_of (view_of self.old) }
+        ensures extents { self.new.is_up ≡ true → extents_of (view_of self.new) ≡ extents_of (view_of self.old) }
         ensures size { D.blocks device.new ≡ D.blocks device.old }
         ensures count { D.reads device.new ≡ D.reads device.old }
         ensures later { D.faults device.old ≤ D.faults device.new }
@@ -220,6 +223,7 @@ impl Store {
         ensures writes { self.new.writes ≡ self.old.writes }
         ensures undamaged { (b : ℕ) → IsErrOf result (WriteFault.Damaged b) → ⊥ }
         ensures blocks { self.new.is_up ≡ true → blocks_of (view_of self.new) ≡ blocks_of (view_of self.old) }
+        ensures extents { self.new.is_up ≡ true → extents_of (view_of self.new) ≡ extents_of (view_of self.old) }
         ensures size { D.blocks device.new ≡ D.blocks device.old }
         ensures count { D.reads device.new ≡ D.reads device.old }
         ensures later { D.faults device.old ≤ D.faults device.new }

@@ -1,13 +1,20 @@
-use Rattle.std.proofs.Common.{◌≡◌, ℕ, refl, sym, ap, subst, ◌∙◌, Err, Some, None, List, Option}
+use Rattle.std.proofs.Common.{◌≡◌, ℕ, refl, sym, ap, subst, ◌∙◌, Ok, Err, Some, None, List, Option}
 use Rattle.std.specs.Option.{option_map}
 use Rattle.std.proofs.lemmas.Result.{err_from_is_err_and}
 use Rattle.lt_terms.specs.Items.{Item}
 use Rattle.lt_item.specs.Views.{item_of}
 use Rattle.lt_tables.specs.Merge.{newest_of}
 use Rattle.lt_htable.specs.declared.faults.LookFault.TheVariants.{Device, Damaged}
+use Rattle.lt_htable.specs.Reading.{IsLookedUp}
 use Rattle.lt_store.specs.Getting.{IsVersion}
-use Rattle.lt_store.proofs.LookLaws.{looked_up-damaged}
+use Rattle.lt_store.proofs.LookLaws.{looked_up-damaged, looked_up-valid}
 use Rattle.lt_store.proofs.getting.look_into.Goals as goal
+
+pub show-requires : goal.show-requires
+show-requires g c =
+    let shown = (g.D.Device.state c.args.device.now).shown in
+    let key : List ℕ = c.args.key.now in
+    looked_up-valid shown c.args.first key (item_of c.in-Some.item) (subst (λ (o : Option Item). IsLookedUp shown c.args.first key (Ok o)) (ap (option_map item_of) c.in-Some.is) c.in_ok-item.ensures.answer)
 
 pub returns-in_err-item-clause-answer : goal.returns-in_err-item-clause-answer
 returns-in_err-item-clause-answer g c = λ image items told placed.

@@ -1,8 +1,8 @@
-use Rattle.std.proofs.Common.{◌≡◌, ℕ, ◌+◌, ◌≤◌, sym, ap, subst, ◌∙◌, [], Ok, Some, arith, vec_len}
-use Rattle.lt_language.specs.Machine.{put_of, delete_of}
+use Rattle.std.proofs.Common.{rules, sym, ap, ◌∙◌, [], Ok, vec_len}
+use Rattle.std.specs.Prelude.{IsErrOf}
+use Rattle.lt_htable.specs.declared.faults.LookFault.TheVariants.{Damaged}
 use Rattle.lt_store.specs.declared.counts.Stat.{Stat}
 use Rattle.lt_store.specs.declared.writing.Taken.TheVariants as taken
-use Rattle.lt_store.specs.Going.{Goes, Survives}
 use Rattle.lt_store.specs.Open.{state_of}
 use Rattle.lt_store.specs.View.{view_of}
 use Rattle.lt_store.proofs.ActLaws.{asks-goes, stat-step, put-step, delete-step, refused-goes, refused-survives, on_err, same-taken, limits}
@@ -73,6 +73,11 @@ returns-in-Some-clause-goes g c = λ durable opened. asks-goes (view_of c.args.s
 
 pub returns-in-None-clause-goes : goal.returns-in-None-clause-goes
 returns-in-None-clause-goes g c = λ durable opened. asks-goes (view_of c.args.self.now) (view_of c.get.new.self) durable _ _ c.get.ensures.unchanged c.get.ensures.state opened
+
+pub returns-in_err-len-in-Get-clause-sound : goal.returns-in_err-len-in-Get-clause-sound
+returns-in_err-len-in-Get-clause-sound g c = λ b durable opened is.
+    let was : IsErrOf c.get.result (Damaged b) = search rules in
+    rw was at (c.get.ensures.answer durable opened)
 
 -- ---- a stat
 

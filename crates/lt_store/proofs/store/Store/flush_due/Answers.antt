@@ -1,5 +1,4 @@
-use Rattle.std.proofs.Common.{rules, ◌≡◌, ◌<◌, ap, sym, subst, arith, IsTrue}
-use Rattle.lt_alloc.specs.Extents.{free_count}
+use Rattle.std.proofs.Common.{rules, ◌≡◌, ap, sym, subst, arith, IsTrue}
 use Rattle.lt_device.specs.Moments.{MayLeave}
 use Rattle.lt_tables.specs.Cut.{table_total}
 use Rattle.lt_tables.specs.Merge.{newest}

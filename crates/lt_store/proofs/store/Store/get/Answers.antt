@@ -29,12 +29,12 @@ returns-clause-answer g c = λ durable opened.
     let k = s.kept c.requires.up in
     elim c.match-get.branch [
       | in-Some w ↦
-          let at = answer-memory (view_of s) durable (g.D.Device.state c.args.device.now) opened (vec_len s.filters) k c.args.key.now (item_of w.in-Some.item) w.show.result c.args.out.now w.show.new.out (sym w.in-Some.ensures) (w.show.ensures.version, w.show.ensures.page) in
+          let at = answer-memory (view_of s) durable (g.D.Device.state c.args.device.now) opened (vec_len s.filters) k c.args.key.now (item_of w.in-Some.item) w.show.result c.args.out.now w.show.new.out (sym w.in-Some.ensures.item) (w.show.ensures.version, w.show.ensures.page) in
           rw (w.out-is, c.value_len.ensures, w.version-is) at
       | in-None+in_ok-version-in-None w ↦
           let tables_are = w.pile-tables.ensures ∙ ap (λ (t : Trie). (node_at t root).tables) w.trie.ensures.nodes in
           let answer = searched (view_of s) durable (g.D.Device.state c.args.device.now) opened (vec_len s.filters) k c.args.key.now s.geometry w.deref.result.now w.pile-tables.result.now (Ok w.in_ok-version-in-None.version) c.args.out.now w.search.new.out s.geometry_is w.deref.ensures.value tables_are w.in_ok-version-in-None.ensures.answer in
-          let at = answer-pile (view_of s) durable (g.D.Device.state c.args.device.now) opened (vec_len s.filters) k c.args.key.now w.in_ok-version-in-None.version c.args.out.now w.search.new.out (sym w.in-None.ensures) answer in
+          let at = answer-pile (view_of s) durable (g.D.Device.state c.args.device.now) opened (vec_len s.filters) k c.args.key.now w.in_ok-version-in-None.version c.args.out.now w.search.new.out (sym w.in-None.ensures.item) answer in
           rw (w.out-is, c.value_len.ensures, w.version-is) at
     ]
 

@@ -1,10 +1,11 @@
 use Rattle.std.proofs.Common.{◌+◌, ◌*◌, ◌∙◌, sym, ap, subst, arith}
 use Rattle.std.proofs.lemmas.Result.{err_from_is_err_and}
 use Rattle.lt_device.specs.State as told
+use Rattle.lt_format.specs.Naming.{Named}
 use Rattle.lt_redo.proofs.OpeningLaws.{handed_on}
 use Rattle.lt_store.specs.Open.{IsOpen}
 use Rattle.lt_store.specs.View.{view_of}
-use Rattle.lt_store.proofs.OpenLaws.{no_manifest, log-damaged, rest-whole, rest-open, low-below, assembled-reads, counts-more, few-reads, assembled-room}
+use Rattle.lt_store.proofs.OpenLaws.{no_manifest, log-damaged, rest-whole, rest-named, rest-open, low-below, assembled-reads, counts-more, few-reads, assembled-room}
 use Rattle.lt_store.proofs.store.Store.open.Goals as goal
 
 pub returns-in_err-geometry-clause-damaged : goal.returns-in_err-geometry-clause-damaged
@@ -61,6 +62,11 @@ returns-clause-reads g c = λ image shown.
     c.in_ok-geometry.ensures.geometry (c.in_ok-geometry.ensures.read image shown) c.in_ok-log.ensures.log (c.in_ok-log.ensures.read image after_manifest) c.deref.ensures.value (c.in_ok-filters.ensures.filters image after_log) c.in_ok-of.ensures
 
 pub returns-clause-opened : goal.returns-clause-opened
-returns-clause-opened g c = λ s rest only.
+returns-clause-opened g c = λ s r.
+    let v = view_of c.in_ok-of.field-0 in
+    let before = g.D.Device.state c.args.device.now in
     let same = c.root_filters.ensures.state ∙ c.read_log.ensures.state ∙ c.read_manifest.ensures.state in
-    subst (λ d. IsOpen (view_of c.in_ok-of.field-0) s d) (sym same) (rest-open (view_of c.in_ok-of.field-0) s (g.D.Device.state c.args.device.now) rest only (returns-clause-reads g c))
+    let reads = returns-clause-reads g c in (
+      subst (λ d. IsOpen v s d) (sym same) (rest-open v s before r.rest r.root_only reads),
+      ap (λ (n : Named). n.manifest.header.extents) (sym (rest-named v s before r.rest reads)),
+    )

@@ -1,7 +1,5 @@
-use Rattle.std.proofs.Common.{rules, ◌≡◌, ◌+◌, ◌*◌, ◌<◌, ℕ, refl, ap, sym, subst, [], ◌∷◌, Ok, Err, Some, IsErrOf, arith}
-use Rattle.lt_device.specs.Moments.{MayLeave}
+use Rattle.std.proofs.Common.{rules, ◌≡◌, ap, sym, subst, [], ◌∷◌, Ok, IsErrOf, arith}
 use Rattle.lt_item.specs.Views.{item_of}
-use Rattle.lt_terms.specs.Bytes.{Image}
 use Rattle.lt_store.specs.declared.faults.WriteFault.TheVariants as faults
 use Rattle.lt_store.specs.Going.{Goes}
 use Rattle.lt_store.specs.Open.{StoreView}
