@@ -1,0 +1,165 @@
+-- A command that was acted, and one that was not.
+use Rattle.std.proofs.Common.{◌≡◌, ℕ, ◌≤◌, refl, sym, ap, subst, ◌∙◌, List, [], ◌∷◌, ◌++◌, take, length, append-nil, Bool, true, false, Option, Some, None, arith}
+use Rattle.std.proofs.lemmas.List.{take_all}
+use Rattle.lt_terms.specs.Items.{Item}
+use Rattle.lt_device.specs.State as told
+use Rattle.lt_image.specs.Standing.{after_writes}
+use Rattle.lt_image.proofs.KeptLaws.{no_writes}
+use Rattle.lt_language.specs.declared.Bad.{Bad}
+use Rattle.lt_language.specs.Commands as commands
+use Rattle.lt_language.specs.Commands.{Command}
+use Rattle.lt_language.specs.Machine.{State, Step, put_of, delete_of, taken}
+use Rattle.lt_language.specs.Replies as replies
+use Rattle.lt_language.specs.Replies.{Reply, text}
+use Rattle.lt_line.specs.Waiting.{Waiting, with_text}
+use Rattle.lt_store.specs.declared.acting.EventView.{EventView}
+use Rattle.lt_store.specs.declared.acting.EventView.TheVariants as events
+use Rattle.lt_store.specs.declared.acting.Outcome.{Outcome}
+use Rattle.lt_store.specs.declared.acting.Outcome.TheVariants as outcomes
+use Rattle.lt_store.specs.declared.faults.WriteFault.{WriteFault}
+use Rattle.lt_store.specs.declared.faults.WriteFault.TheVariants as faults
+use Rattle.lt_store.specs.declared.writing.Taken.TheVariants as answer
+use Rattle.lt_store.specs.Acting.{IsStep, accepted_as, command_of, reply_of, write_of}
+use Rattle.lt_store.specs.Going.{Goes, Survives}
+use Rattle.lt_store.specs.Open.{IsOpen, Rests, StoreView, extents_of, state_of}
+use Rattle.lt_store.proofs.GoLaws.{goes-none, open-rests}
+use Rattle.lt_serve.specs.Acting.{Answers, Lost}
+use Rattle.lt_serve.specs.Faults.{round_fault_of}
+use Rattle.lt_serve.specs.Outcomes.{HasValue, is_taken, most_text, outcome_text, reply_text}
+use Rattle.lt_serve.specs.Runs.{Runs, is_ok}
+
+-- one command was acted
+pub runs-one : (e : ℕ) (s : State) (command : Command) (reply : Reply) (writes : List Item) → Step e s command reply (after_writes s writes) → writes ≡ taken command reply → Runs e s (command ∷ []) (reply ∷ []) writes
+runs-one e s command reply writes step is = record { run = (after_writes s writes, step, refl); taken_are = is ∙ sym (append-nil (taken command reply)) }
+
+-- ---- an outcome, and the reply that it is
+
+abbrev IsTakenAs : Command → Option Item → Outcome → Option Reply → Type 0
+IsTakenAs command item outcome (Some reply) = accepted_as outcome item ≡ taken command reply
+IsTakenAs command item outcome None = Unit {0}
+
+taken-put : (key value : List ℕ) (outcome : Outcome) (page : List ℕ) → IsTakenAs (commands.put key value) (Some (put_of key value)) outcome (reply_of outcome page)
+taken-put key value (outcomes.Taken answer.Ok) page = refl
+taken-put key value (outcomes.Taken (answer.Full n f)) page = refl
+taken-put key value (outcomes.Taken answer.Limit) page = refl
+taken-put key value (outcomes.Value n) page = refl
+taken-put key value outcomes.Missing page = refl
+taken-put key value (outcomes.Stat s) page = refl
+taken-put key value outcomes.Committed page = tt
+
+taken-delete : (key : List ℕ) (outcome : Outcome) (page : List ℕ) → IsTakenAs (commands.delete key) (Some (delete_of key)) outcome (reply_of outcome page)
+taken-delete key (outcomes.Taken answer.Ok) page = refl
+taken-delete key (outcomes.Taken (answer.Full n f)) page = refl
+taken-delete key (outcomes.Taken answer.Limit) page = refl
+taken-delete key (outcomes.Value n) page = refl
+taken-delete key outcomes.Missing page = refl
+taken-delete key (outcomes.Stat s) page = refl
+taken-delete key outcomes.Committed page = tt
+
+taken-get : (key : List ℕ) (outcome : Outcome) (page : List ℕ) → IsTakenAs (commands.get key) None outcome (reply_of outcome page)
+taken-get key (outcomes.Taken answer.Ok) page = refl
+taken-get key (outcomes.Taken (answer.Full n f)) page = refl
+taken-get key (outcomes.Taken answer.Limit) page = refl
+taken-get key (outcomes.Value n) page = refl
+taken-get key outcomes.Missing page = refl
+taken-get key (outcomes.Stat s) page = refl
+taken-get key outcomes.Committed page = tt
+
+taken-stat : (outcome : Outcome) (page : List ℕ) → IsTakenAs commands.stat None outcome (reply_of outcome page)
+taken-stat (outcomes.Taken answer.Ok) page = refl
+taken-stat (outcomes.Taken (answer.Full n f)) page = refl
+taken-stat (outcomes.Taken answer.Limit) page = refl
+taken-stat (outcomes.Value n) page = refl
+taken-stat outcomes.Missing page = refl
+taken-stat (outcomes.Stat s) page = refl
+taken-stat outcomes.Committed page = tt
+
+-- what was taken of an event is what its command and its reply say
+taken-event : (event : EventView) (command : Command) (outcome : Outcome) (page : List ℕ) → command_of event ≡ Some command → IsTakenAs command (write_of event) outcome (reply_of outcome page)
+taken-event (events.Put key value) command outcome page is = let same : commands.put key.now value.now ≡ command = cc in subst (λ x. IsTakenAs x (Some (put_of key.now value.now)) outcome (reply_of outcome page)) same (taken-put key.now value.now outcome page)
+taken-event (events.Delete key) command outcome page is = let same : commands.delete key.now ≡ command = cc in subst (λ x. IsTakenAs x (Some (delete_of key.now)) outcome (reply_of outcome page)) same (taken-delete key.now outcome page)
+taken-event (events.Get key) command outcome page is = let same : commands.get key.now ≡ command = cc in subst (λ x. IsTakenAs x None outcome (reply_of outcome page)) same (taken-get key.now outcome page)
+taken-event events.Stat command outcome page is = let same : commands.stat ≡ command = cc in subst (λ x. IsTakenAs x None outcome (reply_of outcome page)) same (taken-stat outcome page)
+taken-event events.Commit command outcome page is = absurd (cc)
+
+abbrev IsOkAs : Outcome → Option Reply → Type 0
+IsOkAs outcome (Some reply) = is_taken outcome ≡ is_ok reply
+IsOkAs outcome None = Unit {0}
+
+ok-as : (outcome : Outcome) (page : List ℕ) → IsOkAs outcome (reply_of outcome page)
+ok-as (outcomes.Taken answer.Ok) page = refl
+ok-as (outcomes.Taken (answer.Full n f)) page = refl
+ok-as (outcomes.Taken answer.Limit) page = refl
+ok-as (outcomes.Value n) page = refl
+ok-as outcomes.Missing page = refl
+ok-as (outcomes.Stat s) page = refl
+ok-as outcomes.Committed page = tt
+
+-- the value of a get stands at the front of the page
+same-text : (outcome : Outcome) (page value : List ℕ) → ((n : ℕ) → outcome ≡ outcomes.Value n → value ≡ take n page) → HasValue outcome value → outcome_text outcome value ≡ reply_text (reply_of outcome page)
+same-text (outcomes.Taken answer.Ok) page value front has = refl
+same-text (outcomes.Taken (answer.Full n f)) page value front has = refl
+same-text (outcomes.Taken answer.Limit) page value front has = refl
+same-text (outcomes.Value n) page value front has = ap (λ v. text (replies.value v)) (take_all n value (omega (arith, has.0)) ∙ front n refl)
+same-text outcomes.Missing page value front has = refl
+same-text (outcomes.Stat s) page value front has = refl
+same-text outcomes.Committed page value front has = refl
+
+-- ---- a command that was acted
+
+answers-reply : (v w : StoreView) (durable : State) (command : Command) (item : Option Item) (outcome : Outcome) (reply : Option Reply) (waiting0 waiting : Waiting) (old new : told.State)
+    → IsStep (extents_of v) (state_of v durable) (Some command) reply (after_writes (state_of v durable) (accepted_as outcome item)) → IsTakenAs command item outcome reply → IsOkAs outcome reply
+    → Goes v (accepted_as outcome item) w durable old new → length (reply_text reply) ≤ waiting0.room → waiting ≡ with_text waiting0 (reply_text reply)
+    → Answers v durable command (is_taken outcome) waiting0 waiting w old new
+answers-reply v w durable command item outcome None waiting0 waiting old new step taken ok goes fits told = absurd step
+answers-reply v w durable command item outcome (Some reply) waiting0 waiting old new step taken ok goes fits told = record {
+  reply = reply;
+  writes = accepted_as outcome item;
+  runs = runs-one (extents_of v) (state_of v durable) command reply (accepted_as outcome item) step taken;
+  goes = goes;
+  taken_is = ok;
+  fits = fits;
+  told = told;
+}
+
+-- an event that a command is was acted
+pub answers-event : (v w : StoreView) (durable : State) (event : EventView) (command : Command) (outcome : Outcome) (page value : List ℕ) (waiting0 waiting : Waiting) (old new : told.State)
+    → command_of event ≡ Some command
+    → IsStep (extents_of v) (state_of v durable) (command_of event) (reply_of outcome page) (after_writes (state_of v durable) (accepted_as outcome (write_of event)))
+    → Goes v (accepted_as outcome (write_of event)) w durable old new
+    → ((n : ℕ) → outcome ≡ outcomes.Value n → value ≡ take n page) → HasValue outcome value
+    → length (outcome_text outcome value) ≤ most_text → 3007 ≤ waiting0.room → waiting ≡ with_text waiting0 (outcome_text outcome value)
+    → Answers v durable command (is_taken outcome) waiting0 waiting w old new
+answers-event v w durable event command outcome page value waiting0 waiting old new is step goes front has short room told =
+    let same : outcome_text outcome value ≡ reply_text (reply_of outcome page) = same-text outcome page value front has in
+    let len : length (outcome_text outcome value) ≡ length (reply_text (reply_of outcome page)) = ap length same in
+    answers-reply v w durable command (write_of event) outcome (reply_of outcome page) waiting0 waiting old new
+    (subst (λ (x : Option Command). IsStep (extents_of v) (state_of v durable) x (reply_of outcome page) (after_writes (state_of v durable) (accepted_as outcome (write_of event)))) is step)
+    (taken-event event command outcome page is) (ok-as outcome page) goes (omega arith) (told ∙ ap (with_text waiting0) same)
+
+-- a line was refused
+pub answers-bad : (v : StoreView) (durable : State) (kind : Bad) (waiting0 waiting : Waiting) (s : told.State) → IsOpen v durable s
+    → length (text (replies.bad kind)) ≤ most_text → 3007 ≤ waiting0.room → waiting ≡ with_text waiting0 (text (replies.bad kind)) → Answers v durable (commands.bad kind) false waiting0 waiting v s s
+answers-bad v durable kind waiting0 waiting s opened short room told = record {
+  reply = replies.bad kind;
+  writes = [];
+  runs = runs-one (extents_of v) (state_of v durable) (commands.bad kind) (replies.bad kind) [] (refl, no_writes (state_of v durable)) refl;
+  goes = goes-none v durable s opened;
+  taken_is = refl;
+  fits = omega arith;
+  told = told;
+}
+
+-- ---- and one that was not
+
+-- where the store is still up, the device is at rest
+pub lost-event : (v w : StoreView) (durable : State) (fault : WriteFault) (up : Bool) (old new : told.State) → Survives v [] durable old new
+    → (up ≡ true → Goes v [] w durable old new) → (up ≡ false → fault ≡ faults.Device) → ((b : ℕ) → fault ≡ faults.Damaged b → ⊥) → Lost v durable (round_fault_of fault) old new
+lost-event v w durable faults.Device up old new survives goes down sound = record { lost = tt; survives = survives; rests = λ is. absurd (cc) }
+lost-event v w durable (faults.Damaged b) up old new survives goes down sound = absurd (sound b refl)
+lost-event v w durable faults.NoMemory false old new survives goes down sound = let never = down refl in absurd (cc)
+lost-event v w durable faults.NoMemory true old new survives goes down sound = record {
+  lost = tt;
+  survives = survives;
+  rests = λ is. let g = goes refl in (g.sure, subst (λ xs. Rests (after_writes durable (take g.sure xs)) new) (append-nil v.log.pending) (open-rests w (after_writes durable (take g.sure (v.log.pending ++ []))) new g.opened));
+}

@@ -1,0 +1,9 @@
+pub mod ActLaws
+pub mod LineLaws
+pub mod OverLaws
+pub mod PieceLaws
+pub mod RoundLaws
+pub mod RunLaws
+pub mod SendLaws
+pub mod ShownLaws
+pub mod TurnLaws

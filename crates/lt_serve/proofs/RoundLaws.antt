@@ -1,0 +1,283 @@
+-- A round goes on by a part of a line, by a line, and by a commit; and it fails.
+use Rattle.std.proofs.Common.{◌≡◌, ◌≢◌, ℕ, ◌+◌, ◌-◌, refl, sym, ap, subst, ◌∙◌, List, [], ◌∷◌, ◌++◌, take, drop, length, length-append, append_assoc, append-nil, take-add, take-append-drop, Bool, true, false, ◌||◌, cond, arith}
+use Rattle.std.specs.Bool.{IsFalse}
+use Rattle.std.proofs.lemmas.Bool.{false≢true}
+use Rattle.lt_terms.specs.Items.{Item}
+use Rattle.lt_device.specs.Moments.{Leaves}
+use Rattle.lt_device.specs.State as told
+use Rattle.lt_image.specs.Standing.{IsPrefix, after_writes}
+use Rattle.lt_image.proofs.KeptLaws.{no_writes, writes-joined}
+use Rattle.lt_language.specs.Commands.{Command, command_of, commands}
+use Rattle.lt_language.specs.Lines.{line_feed, has_line_feed, rest_of}
+use Rattle.lt_language.specs.Machine.{State}
+use Rattle.lt_language.specs.Replies as replies
+use Rattle.lt_language.specs.Replies.{Reply, text, texts}
+use Rattle.lt_line.specs.Held.{kept_of}
+use Rattle.lt_line.specs.Waiting.{Waiting, all_settled}
+use Rattle.lt_line.proofs.HeldLaws.{kept_of-append, kept_of-none}
+use Rattle.lt_store.specs.Going.{Goes, Survives}
+use Rattle.lt_store.specs.Open.{IsOpen, Rests, StoreView, extents_of, state_of}
+use Rattle.lt_store.proofs.GoLaws.{goes-none, goes-behind, breaks-behind, goes-state}
+use Rattle.lt_serve.specs.declared.faults.RoundFault.{RoundFault}
+use Rattle.lt_serve.specs.declared.faults.RoundFault.TheVariants as faults
+use Rattle.lt_serve.specs.Acting.{Answered, Answers, Lost, settled_unless}
+use Rattle.lt_serve.specs.Rounds.{Committed, Round, Stopped, StartWithOk, Went, all_text}
+use Rattle.lt_serve.specs.Runs.{Runs, is_ok, ok_count}
+use Rattle.lt_serve.proofs.LineLaws.{commands-append, commands-unbroken, commands-ended, rest_of-unbroken, rest_of-ended}
+use Rattle.lt_serve.proofs.RunLaws.{ok_count-append, ok_count-cons, runs-more, runs-none, texts-append}
+
+-- ---- replies that wait
+
+texts-more : (rs : List Reply) (r : Reply) → texts (rs ++ r ∷ []) ≡ texts rs ++ text r
+texts-more rs r = texts-append rs (r ∷ []) ∙ ap (λ xs. texts rs ++ xs) (append-nil (text r))
+
+texts-length : (rs : List Reply) (r : Reply) → length (texts (rs ++ r ∷ [])) ≡ length (texts rs) + length (text r)
+texts-length rs r = ap length (texts-more rs r) ∙ length-append (texts rs) (text r)
+
+some-more : (hidden : List Reply) (r : Reply) → hidden ++ r ∷ [] ≢ []
+some-more [] r = λ e. cc
+some-more (x ∷ hidden) r = λ e. cc
+
+start-one : (r : Reply) → is_ok r ≡ true → StartWithOk (r ∷ [])
+start-one replies.ok is = tt
+start-one (replies.value v) is = absurd (false≢true is)
+start-one replies.none is = absurd (false≢true is)
+start-one (replies.full n f) is = absurd (false≢true is)
+start-one replies.limit is = absurd (false≢true is)
+start-one (replies.stat w r t f) is = absurd (false≢true is)
+start-one (replies.bad kind) is = absurd (false≢true is)
+
+start-behind : (first : Reply) (hidden ys : List Reply) → StartWithOk (first ∷ hidden) → StartWithOk (first ∷ (hidden ++ ys))
+start-behind replies.ok hidden ys start = tt
+start-behind (replies.value v) hidden ys start = absurd start
+start-behind replies.none hidden ys start = absurd start
+start-behind (replies.full n f) hidden ys start = absurd start
+start-behind replies.limit hidden ys start = absurd start
+start-behind (replies.stat w r t f) hidden ys start = absurd start
+start-behind (replies.bad kind) hidden ys start = absurd start
+
+-- the first write that was taken, or a reply behind it
+start-more : (wrote : Bool) (hidden : List Reply) (r : Reply) → (wrote ≡ true → hidden ≢ []) → (wrote || is_ok r) ≡ true → StartWithOk hidden → StartWithOk (hidden ++ r ∷ [])
+start-more wrote (x ∷ hidden) r some is start = start-behind x hidden (r ∷ []) start
+start-more true [] r some is start = absurd (some refl refl)
+start-more false [] r some is start = start-one r is
+
+-- ---- acting goes on
+
+-- nothing was taken yet
+pub went-none : (v : StoreView) (durable : State) (rest kept : List ℕ) (waiting : Waiting) (s : told.State) → IsOpen v durable s → IsFalse (has_line_feed rest) → kept ≡ kept_of rest → waiting.pending_text ≡ [] → Went v durable rest kept false waiting waiting v s s
+went-none v durable rest kept waiting s opened free line none = record {
+  shown = [];
+  hidden = [];
+  writes = [];
+  runs = subst (λ (cs : List Command). Runs (extents_of v) (state_of v durable) cs [] []) (sym (commands-unbroken [] rest free)) (runs-none (extents_of v) (state_of v durable));
+  line = line ∙ ap kept_of (sym (rest_of-unbroken [] rest free));
+  settled = sym (append-nil waiting.settled_text);
+  pending = none;
+  room = omega arith;
+  unwritten = refl;
+  first = tt;
+  none = λ is. refl;
+  some = λ is. absurd (false≢true is);
+  goes = goes-none v durable s opened;
+}
+
+-- the unfinished line goes on
+pub went-on : (v : StoreView) (durable : State) (bytes chunk kept kept' : List ℕ) (wrote : Bool) (waiting0 waiting : Waiting) (w : StoreView) (old new : told.State) → Went v durable bytes kept wrote waiting0 waiting w old new
+    → IsFalse (has_line_feed chunk) → kept' ≡ kept_of (kept ++ chunk) → Went v durable (bytes ++ chunk) kept' wrote waiting0 waiting w old new
+went-on v durable bytes chunk kept kept' wrote waiting0 waiting w old new went free more = record {
+  shown = went.shown;
+  hidden = went.hidden;
+  writes = went.writes;
+  runs = subst (λ (cs : List Command). Runs (extents_of v) (state_of v durable) cs (went.shown ++ went.hidden) went.writes) (sym (commands-unbroken bytes chunk free)) went.runs;
+  line = more ∙ ap (λ k. kept_of (k ++ chunk)) went.line ∙ kept_of-append (rest_of bytes) chunk ∙ ap kept_of (sym (rest_of-unbroken bytes chunk free));
+  settled = went.settled;
+  pending = went.pending;
+  room = went.room;
+  unwritten = went.unwritten;
+  first = went.first;
+  none = went.none;
+  some = went.some;
+  goes = went.goes;
+}
+
+-- what is kept of the line that ends here
+pub kept-line : (v : StoreView) (durable : State) (bytes chunk kept kept' : List ℕ) (wrote : Bool) (waiting0 waiting : Waiting) (w : StoreView) (old new : told.State) → Went v durable bytes kept wrote waiting0 waiting w old new
+    → kept' ≡ kept_of (kept ++ chunk) → kept' ≡ kept_of (rest_of bytes ++ chunk)
+kept-line v durable bytes chunk kept kept' wrote waiting0 waiting w old new went more = more ∙ ap (λ k. kept_of (k ++ chunk)) went.line ∙ kept_of-append (rest_of bytes) chunk
+
+module _ (v : StoreView) (durable : State) (bytes chunk kept : List ℕ) (wrote0 : Bool) (waiting0 waiting : Waiting) (w : StoreView) (old mid : told.State) (went : Went v durable bytes kept wrote0 waiting0 waiting w old mid)
+    (free : IsFalse (has_line_feed chunk)) (waiting' : Waiting) (x : StoreView) (new : told.State) where
+  now : State
+  now = after_writes durable (take went.goes.sure (v.log.pending ++ went.writes))
+
+  abbrev Line : Bool → Type 0
+  Line wrote = Answered w now (command_of (rest_of bytes ++ chunk)) wrote0 wrote waiting waiting' x mid new
+
+  abbrev Further : Bool → Type 0
+  Further wrote = Went v durable (bytes ++ (chunk ++ line_feed ∷ [])) [] wrote waiting0 waiting' x old new
+
+  runs-further : (wrote : Bool) (a : Line wrote) → extents_of w ≡ extents_of v → Runs (extents_of v) (state_of v durable) (commands (bytes ++ (chunk ++ line_feed ∷ []))) ((went.shown ++ went.hidden) ++ a.reply ∷ []) (went.writes ++ a.writes)
+  unfolding now
+  runs-further wrote a same =
+      let command : Command = command_of (rest_of bytes ++ chunk) in
+      let here : Runs (extents_of v) (after_writes (state_of v durable) went.writes) (command ∷ []) (a.reply ∷ []) a.writes =
+      subst (λ e. Runs e (after_writes (state_of v durable) went.writes) (command ∷ []) (a.reply ∷ []) a.writes) same
+      (subst (λ s. Runs (extents_of w) s (command ∷ []) (a.reply ∷ []) a.writes) (goes-state v w went.writes durable old mid went.goes) a.runs) in
+      subst (λ (cs : List Command). Runs (extents_of v) (state_of v durable) cs ((went.shown ++ went.hidden) ++ a.reply ∷ []) (went.writes ++ a.writes)) (sym (commands-ended bytes chunk free))
+      (runs-more (extents_of v) (state_of v durable) (commands bytes) (command ∷ []) (went.shown ++ went.hidden) (a.reply ∷ []) went.writes a.writes went.runs here)
+
+  goes-further : (wrote : Bool) (a : Line wrote) → Goes v (went.writes ++ a.writes) x durable old new
+  unfolding now
+  goes-further wrote a = goes-behind v w went.writes durable old mid went.goes x a.writes new a.goes
+
+  line-further : [] ≡ kept_of (rest_of (bytes ++ (chunk ++ line_feed ∷ [])))
+  line-further = sym kept_of-none ∙ ap kept_of (sym (rest_of-ended bytes chunk free))
+
+  -- no write was taken yet: the reply is settled
+  further-shown : wrote0 ≡ false → (a : Line false) → is_ok a.reply ≡ false → extents_of w ≡ extents_of v → Further false
+  further-shown before a not same =
+      let none : went.hidden ≡ [] = went.none before in
+      let more : waiting.pending_text ≡ [] = went.pending ∙ ap texts none in
+      let room : waiting'.room ≡ waiting.room - length (text a.reply) = ap (λ (t : Waiting). t.room) a.told in
+      let hidden0 : length (texts went.hidden) ≡ 0 = ap (λ rs. length (texts rs)) none in
+      let count : ok_count (went.shown ++ a.reply ∷ []) ≡ ok_count went.shown + ok_count (a.reply ∷ []) = ok_count-append went.shown (a.reply ∷ []) in
+      let one : ok_count (a.reply ∷ []) ≡ 0 = ok_count-cons a.reply [] ∙ ap (λ b. cond {A = ℕ} b 1 0 + ok_count []) not in
+      record {
+        shown = went.shown ++ a.reply ∷ [];
+        hidden = [];
+        writes = went.writes ++ a.writes;
+        runs = subst (λ rs. Runs (extents_of v) (state_of v durable) (commands (bytes ++ (chunk ++ line_feed ∷ []))) rs (went.writes ++ a.writes))
+            (ap (λ rs. (went.shown ++ rs) ++ a.reply ∷ []) none ∙ ap (λ rs. rs ++ a.reply ∷ []) (append-nil went.shown) ∙ sym (append-nil (went.shown ++ a.reply ∷ []))) (runs-further false a same);
+        line = line-further;
+        settled = ap (λ (t : Waiting). t.settled_text) a.told ∙ ap (λ p. waiting.settled_text ++ (p ++ text a.reply)) more ∙ ap (λ s. s ++ text a.reply) went.settled
+            ∙ append_assoc waiting0.settled_text (texts went.shown) (text a.reply) ∙ ap (λ t. waiting0.settled_text ++ t) (sym (texts-more went.shown a.reply));
+        pending = ap (λ (t : Waiting). t.pending_text) a.told;
+        room = omega (arith, texts-length went.shown a.reply, went.room, a.fits);
+        unwritten = omega (arith, went.unwritten);
+        first = tt;
+        none = λ is. refl;
+        some = λ is. absurd (false≢true is);
+        goes = goes-further false a;
+      }
+
+  -- a write was taken, and the reply waits
+  further-hidden : (a : Line true) → (wrote0 || is_ok a.reply) ≡ true → extents_of w ≡ extents_of v → Further true
+  further-hidden a is same =
+      let room : waiting'.room ≡ waiting.room - length (text a.reply) = ap (λ (t : Waiting). t.room) a.told in
+      record {
+        shown = went.shown;
+        hidden = went.hidden ++ a.reply ∷ [];
+        writes = went.writes ++ a.writes;
+        runs = subst (λ rs. Runs (extents_of v) (state_of v durable) (commands (bytes ++ (chunk ++ line_feed ∷ []))) rs (went.writes ++ a.writes)) (append_assoc went.shown went.hidden (a.reply ∷ [])) (runs-further true a same);
+        line = line-further;
+        settled = ap (λ (t : Waiting). t.settled_text) a.told ∙ went.settled;
+        pending = ap (λ (t : Waiting). t.pending_text) a.told ∙ ap (λ p. p ++ text a.reply) went.pending ∙ sym (texts-more went.hidden a.reply);
+        room = omega (arith, texts-length went.hidden a.reply, went.room, a.fits);
+        unwritten = went.unwritten;
+        first = start-more wrote0 went.hidden a.reply went.some is went.first;
+        none = λ no. absurd (false≢true (sym no));
+        some = λ yes. some-more went.hidden a.reply;
+        goes = goes-further true a;
+      }
+
+  either : (wrote before : Bool) → before ≡ wrote0 → (a : Line wrote) → wrote ≡ (before || is_ok a.reply) → extents_of w ≡ extents_of v → Further wrote
+  either false false was a is same = further-shown (sym was) a (sym is) same
+  either false true was a is same = absurd (false≢true is)
+  either true before was a is same = further-hidden a (ap (λ b. b || is_ok a.reply) (sym was) ∙ sym is) same
+
+  -- a line ended, and was answered
+  pub went-line : (wrote : Bool) → Answered w (after_writes durable (take went.goes.sure (v.log.pending ++ went.writes))) (command_of (rest_of bytes ++ chunk)) wrote0 wrote waiting waiting' x mid new → extents_of w ≡ extents_of v
+      → Went v durable (bytes ++ (chunk ++ line_feed ∷ [])) [] wrote waiting0 waiting' x old new
+  unfolding now
+  went-line wrote a same = either wrote wrote0 refl a a.wrote_is same
+
+-- ---- a commit, and a fault
+
+module _ (v : StoreView) (durable : State) (bytes kept : List ℕ) (wrote : Bool) (waiting0 waiting : Waiting) (w : StoreView) (old mid : told.State) (went : Went v durable bytes kept wrote waiting0 waiting w old mid) (nothing : v.log.pending ≡ []) where
+  all_are : v.log.pending ++ went.writes ≡ went.writes
+  all_are = ap (λ xs. xs ++ went.writes) nothing
+
+  runs-durable : Runs (extents_of v) durable (commands bytes) (went.shown ++ went.hidden) went.writes
+  runs-durable = subst (λ s. Runs (extents_of v) s (commands bytes) (went.shown ++ went.hidden) went.writes) (ap (after_writes durable) nothing ∙ no_writes durable) went.runs
+
+  rests-first : (n : ℕ) (new : told.State) → Rests (after_writes (after_writes durable (take went.goes.sure (v.log.pending ++ went.writes))) (take n w.log.pending)) new → Rests (after_writes durable (take (went.goes.sure + n) went.writes)) new
+  rests-first n new rests =
+      let all : List Item = v.log.pending ++ went.writes in
+      let first : List Item = take went.goes.sure all in
+      subst (λ s. Rests s new)
+      (ap (λ xs. after_writes (after_writes durable first) (take n xs)) went.goes.pending ∙ writes-joined durable first (take n (drop went.goes.sure all))
+      ∙ ap (after_writes durable) (sym (take-add went.goes.sure n all)) ∙ ap (λ xs. after_writes durable (take (went.goes.sure + n) xs)) all_are) rests
+
+  -- what follows these bytes was not acted
+  pub stopped-after : (more settled : List ℕ) (fault : RoundFault) (new : told.State) → Lost w (after_writes durable (take went.goes.sure (v.log.pending ++ went.writes))) fault mid new → settled ≡ waiting.settled_text
+      → Stopped (extents_of v) durable (bytes ++ more) fault waiting0.settled_text settled old new
+  stopped-after more settled fault new lost is = record {
+    acted = commands bytes;
+    others = commands (rest_of bytes ++ more);
+    order = sym (commands-append bytes more);
+    shown = went.shown;
+    hidden = went.hidden;
+    writes = went.writes;
+    runs = runs-durable;
+    text = is ∙ went.settled;
+    unwritten = went.unwritten;
+    first = went.first;
+    since = subst (λ xs. Leaves (λ left. IsPrefix left durable xs 0) old new) all_are (breaks-behind v w went.writes durable old mid went.goes new lost.survives);
+    lost = lost.lost;
+    rests = λ short. let r = lost.rests short in (went.goes.sure + r.0, rests-first r.0 new r.1);
+  }
+
+  -- all writes are durable
+  pub committed-after : (x : StoreView) (new : told.State) → Goes w [] x (after_writes durable (take went.goes.sure (v.log.pending ++ went.writes))) mid new → x.log.pending ≡ [] → Committed (extents_of v) durable bytes kept waiting0 waiting x old new
+  committed-after x new commit none =
+      let g = goes-behind v w went.writes durable old mid went.goes x [] new commit in
+      let given : List Item = v.log.pending ++ (went.writes ++ []) in
+      let given_are : given ≡ went.writes = ap (λ xs. v.log.pending ++ xs) (append-nil went.writes) ∙ all_are in
+      let whole : take g.sure given ≡ went.writes = sym (append-nil (take g.sure given)) ∙ ap (λ xs. take g.sure given ++ xs) (sym none ∙ g.pending) ∙ take-append-drop g.sure given ∙ given_are in
+      let joined : texts (went.shown ++ went.hidden) ≡ texts went.shown ++ texts went.hidden = texts-append went.shown went.hidden in
+      let long : length (texts (went.shown ++ went.hidden)) ≡ length (texts went.shown) + length (texts went.hidden) = ap length joined ∙ length-append (texts went.shown) (texts went.hidden) in
+      record {
+        replies = went.shown ++ went.hidden;
+        writes = went.writes;
+        runs = runs-durable;
+        line = went.line;
+        fits = omega (arith, went.room);
+        told = ap (λ s. s ++ waiting.pending_text) went.settled ∙ append_assoc waiting0.settled_text (texts went.shown) waiting.pending_text ∙ ap (λ t. waiting0.settled_text ++ t) (ap (λ t. texts went.shown ++ t) went.pending ∙ sym joined);
+        room = omega (arith, went.room);
+        opened = subst (λ xs. IsOpen x (after_writes durable xs) new) whole g.opened;
+        since = subst (λ xs. Leaves (λ left. IsPrefix left durable xs 0) old new) given_are g.survives;
+      }
+
+-- a commit that failed
+pub lost-commit : (w : StoreView) (durable : State) (old new : told.State) → Survives w [] durable old new → Lost w durable faults.Device old new
+lost-commit w durable old new survives = record { lost = tt; survives = survives; rests = λ is. absurd (cc) }
+
+-- the replies are settled
+pub round-settled : (e : ℕ) (durable : State) (bytes kept : List ℕ) (waiting0 waiting waiting' : Waiting) (w : StoreView) (old new : told.State) → Committed e durable bytes kept (all_settled waiting0) waiting w old new → waiting' ≡ all_settled waiting
+    → Round e durable bytes kept waiting0 waiting' w old new
+round-settled e durable bytes kept waiting0 waiting waiting' w old new c is = record {
+  replies = c.replies;
+  writes = c.writes;
+  runs = c.runs;
+  line = c.line;
+  fits = c.fits;
+  told = is ∙ ap (λ t. record { settled_text = t; pending_text = []; room = waiting.room }) c.told ∙ ap (λ n. record { settled_text = all_text waiting0 ++ texts c.replies; pending_text = []; room = n }) c.room;
+  opened = c.opened;
+  since = c.since;
+}
+
+-- ---- a line
+
+-- a line's command was acted, and its reply is settled as long as no write was taken
+pub answered-line : (v w : StoreView) (durable : State) (command : Command) (wrote0 wrote taken : Bool) (waiting0 waiting waiting' : Waiting) (old new : told.State) → Answers v durable command taken waiting0 waiting w old new
+    → wrote ≡ (wrote0 || taken) → waiting' ≡ settled_unless wrote waiting → Answered v durable command wrote0 wrote waiting0 waiting' w old new
+answered-line v w durable command wrote0 wrote taken waiting0 waiting waiting' old new a is settled = record {
+  reply = a.reply;
+  writes = a.writes;
+  runs = a.runs;
+  goes = a.goes;
+  wrote_is = is ∙ ap (λ b. wrote0 || b) a.taken_is;
+  fits = a.fits;
+  told = settled ∙ ap (settled_unless wrote) a.told;
+}

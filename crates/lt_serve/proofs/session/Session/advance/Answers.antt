@@ -1,0 +1,49 @@
+use Rattle.std.proofs.Common.{◌≡◌, ℕ, List, [], ◌++◌, take, sym, ap, subst, ◌∙◌, arith, IfErr}
+use Rattle.std.proofs.lemmas.List.{take_all}
+use Rattle.std.proofs.lemmas.Result.{err_from_is_err_and}
+use Rattle.lt_device.specs.State as told
+use Rattle.lt_image.specs.Standing.{after_writes}
+use Rattle.lt_language.specs.Machine.{State}
+use Rattle.lt_line.specs.Held.{HeldLine}
+use Rattle.lt_line.specs.Waiting.{Waiting}
+use Rattle.lt_store.specs.Open.{IsOpen, StoreView, extents_of}
+use Rattle.lt_serve.specs.declared.faults.RoundFault.{RoundFault}
+use Rattle.lt_serve.specs.Rounds.{Stopped, Went}
+use Rattle.lt_serve.specs.View.{kept_in, store_in}
+use Rattle.lt_serve.proofs.RoundLaws.{went-on, kept-line, went-line, stopped-after}
+use Rattle.lt_serve.proofs.session.Session.advance.Goals as goal
+
+pub returns-in_err-answer-clause-err : goal.returns-in_err-answer-clause-err
+returns-in_err-answer-clause-err g c =
+    let s = c.args.self.now in
+    let device = g.D.Device.state c.args.device.now in
+    let after = g.D.Device.state c.answer.new.device in
+    let fault = err_from_is_err_and c.from_residual.result c.from_residual.ensures.1 in
+    subst (λ r. IfErr r (λ f. (v : StoreView) (durable : State) (bytes : List ℕ) (waiting0 : Waiting) (start : told.State) → IsOpen v durable start → extents_of (store_in s) ≡ extents_of v → v.log.pending ≡ []
+    → Went v durable bytes (kept_in s) s.wrote waiting0 c.args.out.now (store_in s) start device → Stopped (extents_of v) durable (bytes ++ c.args.piece.now) f waiting0.settled_text c.answer.new.out.settled_text start after)) (sym fault.1)
+    (λ v durable bytes waiting0 start opened same nothing went. subst (λ (f : RoundFault). Stopped (extents_of v) durable (bytes ++ c.args.piece.now) f waiting0.settled_text c.answer.new.out.settled_text start after) (sym fault.2)
+    (stopped-after v durable bytes (kept_in s) s.wrote waiting0 c.args.out.now (store_in s) start device went nothing c.args.piece.now c.answer.new.out.settled_text c.in_err-answer.field-0.0 after
+    (c.in_err-answer.ensures.err (after_writes durable (take went.goes.sure (v.log.pending ++ went.writes))) went.goes.opened) (ap (λ (w : Waiting). w.settled_text) c.in_err-answer.ensures.untold)))
+
+pub returns-in_ok-answer-clause-ok : goal.returns-in_ok-answer-clause-ok
+returns-in_ok-answer-clause-ok g c = λ v durable bytes waiting0 start opened same went.
+    let s = c.args.self.now in
+    let device = g.D.Device.state c.args.device.now in
+    let after = g.D.Device.state c.answer.new.device in
+    let ends = c.feed-taken.ensures.ends (sym c.ready.ensures ∙ c.if-ready.true) in
+    let now = after_writes durable (take went.goes.sure (v.log.pending ++ went.writes)) in
+    let answered = c.in_ok-answer.ensures.ok _ now (kept-line v durable bytes ends.chunk (kept_in s) c.feed-taken.new.self.kept s.wrote waiting0 c.args.out.now (store_in s) start device went ends.kept_is) went.goes.opened in
+    let line : [] ≡ kept_in c.answer.new.self = sym (ap (λ (h : HeldLine). h.kept) c.in_ok-answer.ensures.next) in
+    subst (λ (kept : List ℕ). Went v durable (bytes ++ take c.feed-taken.result c.args.piece.now) kept c.answer.new.self.wrote waiting0 c.answer.new.out (store_in c.answer.new.self) start after) line
+    (subst (λ (taken : List ℕ). Went v durable (bytes ++ taken) [] c.answer.new.self.wrote waiting0 c.answer.new.out (store_in c.answer.new.self) start after) (sym ends.taken_is)
+    (went-line v durable bytes ends.chunk (kept_in s) s.wrote waiting0 c.args.out.now (store_in s) start device went ends.unbroken c.answer.new.out (store_in c.answer.new.self) after c.answer.new.self.wrote answered same))
+
+pub returns-else-ready-clause-ok : goal.returns-else-ready-clause-ok
+returns-else-ready-clause-ok g c = λ v durable bytes waiting0 start opened same went.
+    let s = c.args.self.now in
+    let device = g.D.Device.state c.args.device.now in
+    let piece = c.args.piece.now in
+    let all = c.feed-taken.ensures.goes_on (sym c.ready.ensures ∙ c.if-ready.false) in
+    let whole : piece ≡ take c.feed-taken.result piece = sym (take_all c.feed-taken.result piece (omega (arith, all.0))) in
+    subst (λ (taken : List ℕ). Went v durable (bytes ++ taken) c.feed-taken.new.self.kept s.wrote waiting0 c.args.out.now (store_in s) start device) whole
+    (went-on v durable bytes piece (kept_in s) c.feed-taken.new.self.kept s.wrote waiting0 c.args.out.now (store_in s) start device went all.1.unbroken all.1.kept_is)

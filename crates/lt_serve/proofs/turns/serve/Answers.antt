@@ -1,0 +1,17 @@
+use Rattle.std.proofs.Common.{ℕ, [], ap, subst, Err}
+use Rattle.lt_device.specs.State as told
+use Rattle.lt_serve.specs.Faults.{IsSound}
+use Rattle.lt_serve.specs.Serving.{TurnedOver}
+use Rattle.lt_serve.proofs.TurnLaws.{turned-unopened}
+use Rattle.lt_serve.proofs.turns.serve.Goals as goal
+
+pub returns-in-Ok-clause-over : goal.returns-in-Ok-clause-over
+returns-in-Ok-clause-over g c = λ before r.
+    let opened = c.in-Ok.ensures.opened before r in
+    subst (λ (s : told.State). IsSound c.serve_open.result × TurnedOver r.rest.named.manifest.header.extents before c.serve_open.result [] [] (g.S.Source.left c.args.source.now) (g.S.Source.left c.serve_open.new.source) (g.K.Sink.stands c.args.sink.now) (g.K.Sink.stands c.serve_open.new.sink) (g.K.Sink.faults c.args.sink.now) (g.K.Sink.faults c.serve_open.new.sink) s (g.D.Device.state c.serve_open.new.device)) c.in-Ok.ensures.state
+    (subst (λ (e : ℕ). IsSound c.serve_open.result × TurnedOver e before c.serve_open.result [] [] (g.S.Source.left c.args.source.now) (g.S.Source.left c.serve_open.new.source) (g.K.Sink.stands c.args.sink.now) (g.K.Sink.stands c.serve_open.new.sink) (g.K.Sink.faults c.args.sink.now) (g.K.Sink.faults c.serve_open.new.sink) (g.D.Device.state c.open.new.device) (g.D.Device.state c.serve_open.new.device)) opened.1
+    (c.serve_open.ensures.over before opened.0))
+
+pub returns-in-Err-clause-over : goal.returns-in-Err-clause-over
+returns-in-Err-clause-over g c = λ before r.
+    turned-unopened _ before c.in-Err.fault c.unopened_of.result _ _ _ _ _ c.unopened_of.ensures c.in-Err.ensures.state r (λ block is. c.in-Err.ensures.at_rest before r block (ap Err is))

@@ -1,0 +1,24 @@
+use Rattle.std.proofs.Common.{◌≡◌, ◌≤◌, [], true}
+use Rattle.lt_terms.specs.Causes.{RoseBy}
+use Rattle.lt_language.specs.Machine.{State}
+use Rattle.lt_line.specs.Waiting.{nothing_waits}
+use Rattle.lt_store.specs.Open.{IsOpen, blocks_of, extents_of}
+use Rattle.lt_serve.specs.Serving.{GainsSome, TurnedOn}
+use Rattle.lt_serve.specs.View.{kept_in, store_in}
+use Rattle.lt_serve.proofs.turns.serve_open.Given as goal
+
+abbrev pub invariant-loop-number : goal.invariant-loop-number
+invariant-loop-number g l = record {
+  up : l.session.is_up ≡ true;
+  none : l.replies ≡ nothing_waits;
+  blocks : blocks_of (store_in l.session) ≡ blocks_of (store_in l.fn.session);
+  extents : extents_of (store_in l.session) ≡ extents_of (store_in l.fn.session);
+  size : g.D.Device.blocks l.device ≡ g.D.Device.blocks l.fn.device;
+  source_later : g.S.Source.faults l.fn.source ≤ g.S.Source.faults l.source;
+  sink_later : g.K.Sink.faults l.fn.sink ≤ g.K.Sink.faults l.sink;
+  device_later : g.D.Device.faults l.fn.device ≤ g.D.Device.faults l.device;
+  pieces : RoseBy l.number (g.S.Source.pieces l.fn.source) (g.S.Source.pieces l.source);
+  sink_gains : GainsSome (g.K.Sink.stands l.fn.sink) (g.K.Sink.stands l.sink);
+  on : (before : State) → IsOpen (store_in l.fn.session) before (g.D.Device.state l.fn.device)
+      → TurnedOn (extents_of (store_in l.fn.session)) before [] [] (kept_in l.session) (store_in l.session) (g.S.Source.left l.fn.source) (g.S.Source.left l.source) (g.K.Sink.stands l.fn.sink) (g.K.Sink.stands l.sink) (g.D.Device.state l.fn.device) (g.D.Device.state l.device);
+}

@@ -1,0 +1,46 @@
+-- What a command makes of the store, of the device and of the replies that wait.
+use Rattle.std.specs.Prelude.{◌≡◌, ℕ, ◌≤◌, Bool, true, false, ◌||◌, List, [], ◌∷◌, take, length}
+use Rattle.lt_terms.specs.Items.{Item}
+use Rattle.lt_device.specs.State as told
+use Rattle.lt_image.specs.Standing.{after_writes}
+use Rattle.lt_language.specs.Commands.{Command}
+use Rattle.lt_language.specs.Machine.{State}
+use Rattle.lt_language.specs.Replies.{Reply, text}
+use Rattle.lt_line.specs.Waiting.{Waiting, with_text, all_settled}
+use Rattle.lt_serve.specs.declared.faults.RoundFault.{RoundFault}
+use Rattle.lt_serve.specs.declared.faults.RoundFault.TheVariants as faults
+use Rattle.lt_serve.specs.Faults.{IsLost}
+use Rattle.lt_store.specs.Going.{Goes, Survives}
+use Rattle.lt_store.specs.Open.{StoreView, Rests, extents_of, state_of}
+use Rattle.lt_serve.specs.Runs.{Runs, is_ok}
+
+-- The command was answered by the map machine, and its reply waits; `taken` where it is a write that was taken.
+pub record Answers (v : StoreView) (durable : State) (command : Command) (taken : Bool) (waiting0 waiting : Waiting) (w : StoreView) (old new : told.State) : Type 0 where
+  pub reply : Reply
+  pub writes : List Item
+  pub runs : Runs (extents_of v) (state_of v durable) (command ∷ []) (reply ∷ []) writes
+  pub goes : Goes v writes w durable old new
+  pub taken_is : taken ≡ is_ok reply
+  pub fits : length (text reply) ≤ waiting0.room
+  pub told : waiting ≡ with_text waiting0 (text reply)
+
+-- The command was not answered, and no block is damaged. All that was durable still is, at each moment; where memory was short the device is at rest.
+pub record Lost (v : StoreView) (durable : State) (fault : RoundFault) (old new : told.State) : Type 0 where
+  pub lost : IsLost fault
+  pub survives : Survives v [] durable old new
+  pub rests : fault ≡ faults.NoMemory → (sure : ℕ) × Rests (after_writes durable (take sure v.log.pending)) new
+
+-- all of it is settled as long as no write was taken
+abbrev pub settled_unless : Bool → Waiting → Waiting
+settled_unless true w = w
+settled_unless false w = all_settled w
+
+-- The same of a line, whose reply is settled as long as no write was taken.
+pub record Answered (v : StoreView) (durable : State) (command : Command) (wrote0 wrote : Bool) (waiting0 waiting : Waiting) (w : StoreView) (old new : told.State) : Type 0 where
+  pub reply : Reply
+  pub writes : List Item
+  pub runs : Runs (extents_of v) (state_of v durable) (command ∷ []) (reply ∷ []) writes
+  pub goes : Goes v writes w durable old new
+  pub wrote_is : wrote ≡ (wrote0 || is_ok reply)
+  pub fits : length (text reply) ≤ waiting0.room
+  pub told : waiting ≡ settled_unless wrote (with_text waiting0 (text reply))

@@ -1,0 +1,79 @@
+-- Faults of the layers below as faults of a round, and as answers of serving.
+use Rattle.lt_layout.specs.declared.fault.OpenFault.{OpenFault}
+use Rattle.lt_layout.specs.declared.fault.OpenFault.TheVariants as opens
+use Rattle.lt_store.specs.declared.faults.WriteFault.{WriteFault}
+use Rattle.lt_store.specs.declared.faults.WriteFault.TheVariants as writes
+use Rattle.lt_serve.specs.declared.faults.RoundFault.{RoundFault}
+use Rattle.lt_serve.specs.declared.faults.RoundFault.TheVariants as rounds
+use Rattle.lt_serve.specs.declared.served.Served.{Served}
+use Rattle.lt_serve.specs.declared.served.Served.TheVariants as served
+
+-- the same fault
+abbrev pub round_fault_of : WriteFault → RoundFault
+round_fault_of writes.Device = rounds.Device
+round_fault_of (writes.Damaged block) = rounds.Damaged block
+round_fault_of writes.NoMemory = rounds.NoMemory
+
+abbrev pub served_of : RoundFault → Served
+served_of rounds.Device = served.Device
+served_of (rounds.Damaged block) = served.Damaged block
+served_of rounds.NoMemory = served.NoMemory
+
+abbrev pub unopened_of : OpenFault → Served
+unopened_of opens.Device = served.Device
+unopened_of (opens.Damaged block) = served.Damaged block
+unopened_of opens.NoMemory = served.NoMemory
+
+-- no block is damaged
+abbrev pub IsLost : RoundFault → Type 0
+IsLost (rounds.Damaged block) = ⊥
+IsLost fault = Unit {0}
+
+-- serving stopped between two lines, with every reply shown
+abbrev pub IsPause : Served → Type 0
+IsPause served.Source = Unit {0}
+IsPause served.Turns = Unit {0}
+IsPause status = ⊥
+
+-- serving stopped somewhere
+abbrev pub IsHalt : Served → Type 0
+IsHalt served.Sink = Unit {0}
+IsHalt served.Device = Unit {0}
+IsHalt served.NoMemory = Unit {0}
+IsHalt status = ⊥
+
+-- serving stopped somewhere, and not by the sink
+abbrev pub IsInnerHalt : Served → Type 0
+IsInnerHalt served.Device = Unit {0}
+IsInnerHalt served.NoMemory = Unit {0}
+IsInnerHalt status = ⊥
+
+-- every write that was taken is durable
+abbrev pub IsSettled : Served → Type 0
+IsSettled served.Done = Unit {0}
+IsSettled served.Source = Unit {0}
+IsSettled served.Sink = Unit {0}
+IsSettled served.Turns = Unit {0}
+IsSettled status = ⊥
+
+-- no block is damaged
+abbrev pub IsSound : Served → Type 0
+IsSound (served.Damaged block) = ⊥
+IsSound status = Unit {0}
+
+-- what may end a round with its emission, the whole input, and a turn
+abbrev pub IsStepEnd : Served → Type 0
+IsStepEnd served.Sink = Unit {0}
+IsStepEnd served.Device = Unit {0}
+IsStepEnd (served.Damaged block) = Unit {0}
+IsStepEnd served.NoMemory = Unit {0}
+IsStepEnd status = ⊥
+
+abbrev pub IsEnd : Served → Type 0
+IsEnd served.Done = Unit {0}
+IsEnd served.Sink = Unit {0}
+IsEnd status = ⊥
+
+abbrev pub IsTurnEnd : Served → Type 0
+IsTurnEnd served.Turns = ⊥
+IsTurnEnd status = Unit {0}

@@ -1,0 +1,11 @@
+-- A session between two rounds.
+use Rattle.std.specs.Prelude.{◌≡◌, true, false, []}
+use Rattle.lt_line.specs.Held.{HeldLine}
+use Rattle.lt_store.specs.declared.store.Store.{Store}
+use Rattle.lt_store.specs.View.{view_of}
+
+-- the store is up, all its writes are durable, and no line waits
+pub record IsIdle (store : Store) (lines : HeldLine) : Type 0 where
+  pub up : store.is_up ≡ true
+  pub durable : (view_of store).log.pending ≡ []
+  pub open_line : lines.is_ended ≡ false

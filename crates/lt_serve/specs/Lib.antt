@@ -1,0 +1,10 @@
+pub mod Acting
+pub mod Ends
+pub mod Faults
+pub mod Idle
+pub mod Outcomes
+pub mod Rounds
+pub mod Runs
+pub mod Sending
+pub mod Serving
+pub mod View

@@ -1,0 +1,86 @@
+-- What a round makes of the lines of a piece.
+use Rattle.std.specs.Prelude.{◌≡◌, ◌≢◌, ℕ, ◌+◌, ◌-◌, ◌≤◌, Bool, true, false, List, [], ◌∷◌, ◌++◌, take, length}
+use Rattle.lt_terms.specs.Items.{Item}
+use Rattle.lt_device.specs.Moments.{Leaves}
+use Rattle.lt_device.specs.State as told
+use Rattle.lt_image.specs.Standing.{IsPrefix, after_writes}
+use Rattle.lt_language.specs.Commands.{Command, commands}
+use Rattle.lt_language.specs.Lines.{rest_of}
+use Rattle.lt_language.specs.Machine.{State}
+use Rattle.lt_language.specs.Replies as replies
+use Rattle.lt_language.specs.Replies.{Reply, texts}
+use Rattle.lt_line.specs.Held.{kept_of}
+use Rattle.lt_line.specs.Waiting.{Waiting}
+use Rattle.lt_store.specs.Going.{Goes}
+use Rattle.lt_store.specs.Open.{StoreView, IsOpen, Rests, extents_of, state_of}
+use Rattle.lt_serve.specs.declared.faults.RoundFault.{RoundFault}
+use Rattle.lt_serve.specs.declared.faults.RoundFault.TheVariants as faults
+use Rattle.lt_serve.specs.Faults.{IsLost}
+use Rattle.lt_serve.specs.Runs.{Runs, ok_count}
+
+-- none, or the first of them is an `OK`
+abbrev pub StartWithOk : List Reply → Type 0
+StartWithOk [] = Unit {0}
+StartWithOk (replies.ok ∷ rest) = Unit {0}
+StartWithOk rest = ⊥
+
+-- all text that waits, settled or not
+abbrev pub all_text : Waiting → List ℕ
+all_text waiting = waiting.settled_text ++ waiting.pending_text
+
+-- The lines of the bytes were acted from `v` on. The replies before the first write that was taken are settled, and the others wait; `wrote` where there are such.
+pub record Went (v : StoreView) (durable : State) (bytes kept : List ℕ) (wrote : Bool) (waiting0 waiting : Waiting) (w : StoreView) (old new : told.State) : Type 0 where
+  pub shown : List Reply
+  pub hidden : List Reply
+  pub writes : List Item
+  pub runs : Runs (extents_of v) (state_of v durable) (commands bytes) (shown ++ hidden) writes
+  pub line : kept ≡ kept_of (rest_of bytes)
+  pub settled : waiting.settled_text ≡ waiting0.settled_text ++ texts shown
+  pub pending : waiting.pending_text ≡ texts hidden
+  pub room : waiting.room + (length (texts shown) + length (texts hidden)) ≡ waiting0.room
+  pub unwritten : ok_count shown ≡ 0
+  pub first : StartWithOk hidden
+  pub none : wrote ≡ false → hidden ≡ []
+  pub some : wrote ≡ true → hidden ≢ []
+  pub goes : Goes v writes w durable old new
+
+-- A round that took the bytes: all their lines were answered, the replies are settled, and all writes are durable.
+pub record Round (e : ℕ) (durable : State) (bytes kept : List ℕ) (waiting0 waiting : Waiting) (w : StoreView) (old new : told.State) : Type 0 where
+  pub replies : List Reply
+  pub writes : List Item
+  pub runs : Runs e durable (commands bytes) replies writes
+  pub line : kept ≡ kept_of (rest_of bytes)
+  pub fits : length (texts replies) ≤ waiting0.room
+  pub told : waiting ≡ record { settled_text = all_text waiting0 ++ texts replies; pending_text = []; room = waiting0.room - length (texts replies) }
+  pub opened : IsOpen w (after_writes durable writes) new
+  pub since : Leaves (λ left. IsPrefix left durable writes 0) old new
+
+-- The same before its replies are settled; those before its first write that was taken are.
+pub record Committed (e : ℕ) (durable : State) (bytes kept : List ℕ) (waiting0 waiting : Waiting) (w : StoreView) (old new : told.State) : Type 0 where
+  pub replies : List Reply
+  pub writes : List Item
+  pub runs : Runs e durable (commands bytes) replies writes
+  pub line : kept ≡ kept_of (rest_of bytes)
+  pub fits : length (texts replies) ≤ waiting0.room
+  pub told : all_text waiting ≡ waiting0.settled_text ++ texts replies
+  pub room : waiting.room ≡ waiting0.room - length (texts replies)
+  pub opened : IsOpen w (after_writes durable writes) new
+  pub since : Leaves (λ left. IsPrefix left durable writes 0) old new
+
+-- A round that failed within the bytes: the replies before its first write that was taken are settled, and no other.
+pub record Stopped (e : ℕ) (durable : State) (bytes : List ℕ) (fault : RoundFault) (settled0 settled : List ℕ) (old new : told.State) : Type 0 where
+  pub acted : List Command
+  pub others : List Command
+  pub order : acted ++ others ≡ commands bytes
+  pub shown : List Reply
+  pub hidden : List Reply
+  pub writes : List Item
+  pub runs : Runs e durable acted (shown ++ hidden) writes
+  pub text : settled ≡ settled0 ++ texts shown
+  pub unwritten : ok_count shown ≡ 0
+  pub first : StartWithOk hidden
+  -- each image since holds first writes of these, behind all that was durable
+  pub since : Leaves (λ left. IsPrefix left durable writes 0) old new
+  -- no block is damaged; and where memory was short the device is at rest
+  pub lost : IsLost fault
+  pub rests : fault ≡ faults.NoMemory → (sure : ℕ) × Rests (after_writes durable (take sure writes)) new

@@ -1,0 +1,115 @@
+//! Acting a command: the store's event, and the text of its reply, which is not settled.
+
+ghost use Rattle.std.specs.Prelude.{◌≡◌, ℕ, ◌≤◌, true, Some, IfErr, IfOk, IsErrOf, OnErr, OnOk, take};
+ghost use Rattle.lt_terms.specs.Causes.{Rose};
+ghost use Rattle.lt_language.specs.Commands.{Command as AskedCommand};
+ghost use Rattle.lt_language.specs.Machine.{State};
+ghost use Rattle.lt_language.specs.Valid.{IsWithinLimits};
+ghost use Rattle.lt_line.specs.View.{view_of as command_in};
+ghost use Rattle.lt_store.specs.Acting.{MayAct, command_of};
+ghost use Rattle.lt_store.specs.Damage.{StopsGet};
+ghost use Rattle.lt_store.specs.Open.{IsOpen, blocks_of, extents_of};
+ghost use Rattle.lt_store.specs.View.{view_of};
+ghost use Rattle.lt_serve.specs.Acting.{Answers, Lost};
+ghost use Rattle.lt_serve.specs.Faults.{round_fault_of};
+ghost use Rattle.lt_serve.specs.Outcomes.{HasValue, is_taken};
+
+use crate::outcomes::{add_bad, add_outcome};
+use lt_device::Device;
+use lt_line::{Command, Replies};
+use lt_page::Page;
+use lt_store::{EventView, Outcome, Store, Taken, WriteFault};
+use std::alloc::Global;
+
+/// Acts the command of a line and adds its reply. Answers whether a write was taken.
+pub(super) fn act_command<D: Device>(
+    store: &mut Store,
+    alloc: Global,
+    device: &mut D,
+    command: &Command<'_>,
+    value: &mut Page,
+    out: &mut Replies,
+) -> Result<bool, WriteFault>
+    requires up { store.old.is_up ≡ true }
+    requires limits { IsWithinLimits (command_in command.now) }
+    requires within { blocks_of (view_of store.old) ≤ D.blocks device.old }
+    requires room { 3007 ≤ out.old.room }
+
+    ensures ok { IfOk result (λ taken. (durable : State) → IsOpen (view_of store.old) durable (D.state device.old)
+        → Answers (view_of store.old) durable (command_in command.now) taken out.old out.new (view_of store.new) (D.state device.old) (D.state device.new)) }
+    ensures err { IfErr result (λ fault. (durable : State) → IsOpen (view_of store.old) durable (D.state device.old)
+        → Lost (view_of store.old) durable (round_fault_of fault) (D.state device.old) (D.state device.new)) }
+    ensures untold { OnErr result (out.new ≡ out.old) }
+
+    ensures up { OnOk result (store.new.is_up ≡ true) }
+    ensures blocks { OnOk result (blocks_of (view_of store.new) ≡ blocks_of (view_of store.old)) }
+    ensures extents { OnOk result (extents_of (view_of store.new) ≡ extents_of (view_of store.old)) }
+    ensures damaged { (b : ℕ) → IsErrOf result (WriteFault.Damaged b) → StopsGet (D.state device.new) b }
+    ensures cause { IsErrOf result WriteFault.Device → Rose (D.faults device.old) (D.faults device.new) }
+    ensures later { D.faults device.old ≤ D.faults device.new }
+    ensures size { D.blocks device.new ≡ D.blocks device.old }
+{
+    let event = match command {
+        Command::Put { key, value } => EventView::Put { key, value },
+        Command::Delete { key } => EventView::Delete { key },
+        Command::Get { key } => EventView::Get { key },
+        Command::Stat => EventView::Stat,
+        Command::Bad(kind) => {
+            add_bad(out, *kind);
+            return Ok(false);
+        }
+    };
+    act_event(store, alloc, device, event, value, out)
+}
+
+/// Acts an event that a command is, and adds its reply. Answers whether a write was taken.
+fn act_event<D: Device>(
+    store: &mut Store,
+    alloc: Global,
+    device: &mut D,
+    event: EventView<'_>,
+    value: &mut Page,
+    out: &mut Replies,
+) -> Result<bool, WriteFault>
+    requires up { store.old.is_up ≡ true }
+    requires valid { MayAct event }
+    requires within { blocks_of (view_of store.old) ≤ D.blocks device.old }
+    requires room { 3007 ≤ out.old.room }
+
+    ensures ok { IfOk result (λ taken. (command : AskedCommand) (durable : State) → command_of event.entry ≡ Some command → IsOpen (view_of store.old) durable (D.state device.old)
+        → Answers (view_of store.old) durable command taken out.old out.new (view_of store.new) (D.state device.old) (D.state device.new)) }
+    ensures err { IfErr result (λ fault. (durable : State) → IsOpen (view_of store.old) durable (D.state device.old)
+        → Lost (view_of store.old) durable (round_fault_of fault) (D.state device.old) (D.state device.new)) }
+    ensures untold { OnErr result (out.new ≡ out.old) }
+
+    ensures up { OnOk result (store.new.is_up ≡ true) }
+    ensures blocks { OnOk result (blocks_of (view_of store.new) ≡ blocks_of (view_of store.old)) }
+    ensures extents { OnOk result (extents_of (view_of store.new) ≡ extents_of (view_of store.old)) }
+    ensures damaged { (b : ℕ) → IsErrOf result (WriteFault.Damaged b) → StopsGet (D.state device.new) b }
+    ensures cause { IsErrOf result WriteFault.Device → Rose (D.faults device.old) (D.faults device.new) }
+    ensures later { D.faults device.old ≤ D.faults device.new }
+    ensures size { D.blocks device.new ≡ D.blocks device.old }
+{
+    let outcome = store.act(alloc, device, event, value)?;
+    add_outcome(out, &outcome, found(&outcome, value));
+    Ok(is_taken(&outcome))
+}
+
+/// Whether a write was taken.
+fn is_taken(outcome: &Outcome) -> bool
+    ensures { result ≡ is_taken outcome.now }
+{
+    matches!(outcome, Outcome::Taken(Taken::Ok))
+}
+
+/// The value that a get found; no byte of any other outcome.
+fn found<'a>(outcome: &Outcome, page: &'a Page) -> &'a [u8]
+    requires { (n : ℕ) → outcome.now ≡ Outcome.Value n → n ≤ 3000 }
+    ensures value { HasValue outcome.now result.now }
+    ensures front { (n : ℕ) → outcome.now ≡ Outcome.Value n → result.now ≡ take n page.now }
+{
+    match outcome {
+        Outcome::Value(len) => &page.bytes()[..usize::from(*len)],
+        _ => &[],
+    }
+}
