@@ -1,14 +1,3 @@
-pub mod ActLaws
-pub mod CommitLaws
-pub mod ContentLaws
-pub mod EndLaws
-pub mod LogLaws
-pub mod MoveLaws
-pub mod OpeningLaws
-pub mod OverLaws
-pub mod PieceLaws
-pub mod ReadLaws
-pub mod RunLaws
-pub mod ServeLaws
-pub mod ShownLaws
-pub mod TurnLaws
+pub mod DamageLaws
+pub mod TellingLaws
+pub mod WordLaws

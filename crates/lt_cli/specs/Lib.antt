@@ -1,10 +1,5 @@
-pub mod Acting
-pub mod Buffer
-pub mod FirstPath
-pub mod Log
-pub mod Moves
-pub mod Opening
+pub mod Making
 pub mod Promise
-pub mod Serving
 pub mod Statuses
-pub mod Taking
+pub mod Telling
+pub mod Words

@@ -1,7 +1,7 @@
 -- The statuses of the top call.
 use Rattle.std.specs.Prelude.{ℕ}
-use Rattle.lt_cli.specs.declared.session.Fault.{Fault}
-use Rattle.lt_cli.specs.declared.session.Fault.TheVariants as faults
+use Rattle.lt_serve.specs.declared.served.Served.{Served}
+use Rattle.lt_serve.specs.declared.served.Served.TheVariants as served
 use Rattle.lt_cli.specs.declared.status.Status.{Status}
 use Rattle.lt_cli.specs.declared.status.Status.TheVariants.{Done, Words, SourceFault, SinkFault, DeviceFault, Damaged, Refused, NoMemory, Turns}
 
@@ -17,42 +17,33 @@ code_of Refused = 6
 code_of NoMemory = 7
 code_of Turns = 8
 
--- serving stopped between two lines, with every reply shown
-abbrev pub IsPause : Status → Type 0
-IsPause SourceFault = Unit {0}
-IsPause Turns = Unit {0}
-IsPause status = ⊥
+-- the status that an answer of serving is
+abbrev pub status_of : Served → Status
+status_of served.Done = Done
+status_of served.Source = SourceFault
+status_of served.Sink = SinkFault
+status_of served.Device = DeviceFault
+status_of (served.Damaged block) = Damaged
+status_of served.NoMemory = NoMemory
+status_of served.Turns = Turns
 
--- serving stopped somewhere
-abbrev pub IsHalt : Status → Type 0
-IsHalt SinkFault = Unit {0}
-IsHalt DeviceFault = Unit {0}
-IsHalt NoMemory = Unit {0}
-IsHalt status = ⊥
+-- the statuses that may come where no count of faults rose
+abbrev pub IsUncounted : Status → Type 0
+IsUncounted SourceFault = ⊥
+IsUncounted SinkFault = ⊥
+IsUncounted DeviceFault = ⊥
+IsUncounted status = Unit {0}
 
--- serving stopped somewhere, and not by the sink
-abbrev pub IsInnerHalt : Status → Type 0
-IsInnerHalt DeviceFault = Unit {0}
-IsInnerHalt NoMemory = Unit {0}
-IsInnerHalt status = ⊥
+-- what `run` may end with
+abbrev pub IsRunEnd : Status → Type 0
+IsRunEnd Words = ⊥
+IsRunEnd Refused = ⊥
+IsRunEnd status = Unit {0}
 
--- the status of a session that is over
-abbrev pub status_of : Fault → Status
-status_of faults.Device = DeviceFault
-status_of faults.NoMemory = NoMemory
-
--- what may come at the end of input
-abbrev pub IsEnd : Status → Type 0
-IsEnd Done = Unit {0}
-IsEnd SinkFault = Unit {0}
-IsEnd NoMemory = Unit {0}
-IsEnd status = ⊥
-
--- what may end a turn
-abbrev pub IsTurnEnd : Status → Type 0
-IsTurnEnd Done = Unit {0}
-IsTurnEnd SourceFault = Unit {0}
-IsTurnEnd SinkFault = Unit {0}
-IsTurnEnd DeviceFault = Unit {0}
-IsTurnEnd NoMemory = Unit {0}
-IsTurnEnd status = ⊥
+-- what `init` may end with
+abbrev pub IsInitEnd : Status → Type 0
+IsInitEnd Done = Unit {0}
+IsInitEnd DeviceFault = Unit {0}
+IsInitEnd Refused = Unit {0}
+IsInitEnd NoMemory = Unit {0}
+IsInitEnd status = ⊥

@@ -1,19 +1,16 @@
-//! The top call of the program, and the first path that serves it: put and get lines over a log alone.
+//! The top call of the program: serving a store, and making one.
 #![tactic(auto)]
 
-mod act;
-mod content;
-mod log;
-mod opening;
-mod replies;
-mod serve;
-mod session;
+mod making;
+mod running;
 mod status;
+mod telling;
 mod top;
-mod turns;
+mod words;
 
 pub use status::Status;
 pub use top::lsm_trie;
+pub use words::{Task, task_of};
 
 #[cfg(test)]
 mod tests;

@@ -1,20 +1,17 @@
 use super::*;
 use lt_device::{Device, MemDevice, Pick, Steady};
 use lt_io::{MemSink, MemSource, Sink, Source, SteadySource};
-use lt_page::{Failed, NoMemory, Page};
+use lt_page::{NoMemory, Page};
 use std::alloc::Global;
 
-/// The script of the crashes, and the replies to `get a`, `get b` and `get c` after none to all of its puts.
-const PUTS: &str = "put a 1\nput b 2\nput c 3\n";
+/// A store of 1 extent, 2 levels and 1 slot has so many blocks. Its extent begins at block 872.
+const BLOCKS: u64 = 937;
 
-const GETS: &str = "get a\nget b\nget c\n";
+/// The bucket of `a` in the first extent.
+const HOME_OF_A: u64 = 929;
 
-const KEPT: [&str; 4] = [
-    "NONE\nNONE\nNONE\n",
-    "VALUE 1\nNONE\nNONE\n",
-    "VALUE 1\nVALUE 2\nNONE\n",
-    "VALUE 1\nVALUE 2\nVALUE 3\n",
-];
+/// More calls of a device than any of these runs makes.
+const CALLS: usize = 9999;
 
 fn owned(alloc: Global, pieces: &[&str]) -> Result<Vec<Vec<u8>>, NoMemory> {
     let mut owned = Vec::new(alloc);
@@ -39,7 +36,33 @@ fn run_over<S: Source, K: Sink, D: Device>(
     Ok(lsm_trie(alloc, &owned, source, sink, device).code())
 }
 
-/// Runs over a source and a sink whose calls with these numbers fail. Answers the replies and the status.
+/// Runs over steady ends. Answers what was shown, and the status.
+fn run_words<D: Device>(
+    alloc: Global,
+    device: &mut D,
+    words: &str,
+    pieces: &[&str],
+) -> Result<(Vec<u8>, u8), NoMemory> {
+    let mut source = SteadySource::new(owned(alloc, pieces)?);
+    let mut sink = MemSink::new(alloc, 65_536, 4096, Vec::new(alloc))?;
+    let status = run_over(alloc, words, &mut source, &mut sink, device)?;
+    Ok((sink.taken().to_vec(alloc)?, status))
+}
+
+fn run<D: Device>(
+    alloc: Global,
+    device: &mut D,
+    pieces: &[&str],
+) -> Result<(Vec<u8>, u8), NoMemory> {
+    run_words(alloc, device, "run", pieces)
+}
+
+/// Whether this was shown, and this is the status.
+fn shows(answer: &(Vec<u8>, u8), text: &str, status: u8) -> bool {
+    answer.0.as_slice() == text.as_bytes() && answer.1 == status
+}
+
+/// Runs over a source and a sink whose calls with these numbers fail.
 fn run_failing<D: Device>(
     alloc: Global,
     device: &mut D,
@@ -53,220 +76,289 @@ fn run_failing<D: Device>(
     Ok((sink.taken().to_vec(alloc)?, status))
 }
 
-fn run<D: Device>(
-    alloc: Global,
-    device: &mut D,
-    pieces: &[&str],
-) -> Result<(Vec<u8>, u8), NoMemory> {
-    run_failing(alloc, device, pieces, Vec::new(alloc), Vec::new(alloc))
+/// A device in memory with a store of 1 extent, 2 levels and 1 slot.
+fn made(alloc: Global) -> Result<MemDevice, NoMemory> {
+    let mut device = MemDevice::new(alloc, BLOCKS, CALLS, Vec::new(alloc), None)?;
+    run_words(alloc, &mut device, "init 1 2 1", &[])?;
+    Ok(device)
 }
 
-/// A device of zeros but for one block, which is filled with ones.
-fn one_block_filled<D: Device>(alloc: Global, device: &mut D, block: u64) -> Result<(), NoMemory> {
+/// The same after two puts, of which the first was flushed.
+fn made_with_two(alloc: Global) -> Result<MemDevice, NoMemory> {
+    let mut device = made(alloc)?;
+    run(alloc, &mut device, &["put a 1\n", "put b 2\n"])?;
+    Ok(device)
+}
+
+/// How many blocks are read to open the store of a device.
+fn opening_reads(alloc: Global, device: &MemDevice) -> Result<u64, NoMemory> {
+    let mut copy = device.crash(alloc, &[], CALLS, Vec::new(alloc), None)?;
+    run(alloc, &mut copy, &[])?;
+    Ok(copy.reads())
+}
+
+/// Puts bytes into a block, from this place on.
+fn spoil<D: Device>(
+    alloc: Global,
+    device: &mut D,
+    block: u64,
+    at: usize,
+    bytes: &[u8],
+) -> Result<(), NoMemory> {
     let mut page = Page::new(alloc)?;
-    page.fill_from(0, &[1; Page::LEN]);
-    if block < device.blocks() {
+    if block < device.blocks() && at < Page::LEN && bytes.len() <= Page::LEN - at {
+        let _ = device.read(block, &mut page);
+        page.fill_from(at, bytes);
         let _ = device.write(block, &page);
+        let _ = device.sync();
     }
     Ok(())
 }
 
 #[test]
-fn lines_are_answered_from_a_log_alone(rt: HostRuntime) -> Result<(), NoMemory> {
-    let rows = [
-        (4, "", ""),
-        (4, "put k v\nget k\n", "OK\nVALUE v\n"),
+fn lines_are_answered_by_a_store(rt: HostRuntime) -> Result<(), NoMemory> {
+    let alloc = rt.alloc();
+    let rows: [(&[&str], &str); 5] = [
+        (&["put k v\nget k\n"], "OK\nVALUE v\n"),
         (
-            4,
-            "put a 1\nput b 2\nput c 3\nget a\n",
-            "OK\nOK\nFULL 1 0\nVALUE 1\n",
+            &["put k 1\nput k 2\nget k\ndelete k\nget k\ndelete k\nget k\n"],
+            "OK\nOK\nVALUE 2\nOK\nNONE\nOK\nNONE\n",
         ),
         (
-            4,
-            "put a 1\nput a 2\nget a\nget b\n",
-            "OK\nOK\nVALUE 2\nNONE\n",
+            &["put k 1\n", "get k\nget", " k\n"],
+            "OK\nVALUE 1\nVALUE 1\n",
         ),
-        (1, "put a 1\n", "FULL 1 0\n"),
         (
-            4,
-            "delete a\nstat\nput a\nget a",
-            "BAD syntax\nBAD syntax\nBAD syntax\nBAD syntax\n",
+            &["\nput k\nput  v\nget\nget \nget a b\nstat x\nPUT k v\n"],
+            "BAD syntax\nBAD syntax\nBAD key\nBAD syntax\nBAD key\nBAD key\nBAD syntax\nBAD syntax\n",
         ),
+        (&["put k v\nget k"], "OK\nBAD end\n"),
     ];
-    for (blocks, input, want) in rows {
-        let mut device = Steady::new(rt.alloc(), blocks)?;
-        let (replies, status) = run(rt.alloc(), &mut device, &[input])?;
-        assert_eq!(rt; replies.as_slice(), want.as_bytes(), "of {input:?}");
+    for (pieces, want) in rows {
+        let mut device = Steady::new(alloc, 1384)?;
+        let answer = run_words(alloc, &mut device, "init 4 2 64", &[])?;
+        assert!(rt; shows(&answer, "", 0));
+        let (shown, status) = run(alloc, &mut device, pieces)?;
+        assert_eq!(rt; shown.as_slice(), want.as_bytes(), "of {pieces:?}");
         assert_eq!(rt; status, 0);
     }
+    Ok(())
+}
+
+#[test]
+fn puts_are_refused_once_no_extent_is_free(rt: HostRuntime) -> Result<(), NoMemory> {
+    let alloc = rt.alloc();
+    let mut device = made(alloc)?;
+    let pieces = [
+        "put a 1\n",
+        "put b 2\n",
+        "put c 3\n",
+        "get a\n",
+        "get b\n",
+        "stat\n",
+    ];
+    let (shown, status) = run(alloc, &mut device, &pieces)?;
+    let mut want = b"OK\nOK\nFULL 1 0\nVALUE 1\nVALUE 2\nSTAT 2 ".to_vec(alloc)?;
+    let reads = device.reads().to_string(alloc)?;
+    want.extend_from_slice(reads.as_bytes())?;
+    want.extend_from_slice(b" 1 0\n")?;
+    assert_eq!(rt; shown.as_slice(), want.as_slice());
+    assert_eq!(rt; status, 0);
     Ok(())
 }
 
 #[test]
 fn other_words_leave_all_as_it_was(rt: HostRuntime) -> Result<(), NoMemory> {
-    for words in ["run x", "", "stop"] {
-        let mut device = Steady::new(rt.alloc(), 4)?;
-        let mut source = SteadySource::new(owned(rt.alloc(), &["put a 1\n"])?);
-        let mut sink = MemSink::new(rt.alloc(), 9, 9, Vec::new(rt.alloc()))?;
-        let status = run_over(rt.alloc(), words, &mut source, &mut sink, &mut device)?;
-        assert_eq!(rt; status, 1);
+    let alloc = rt.alloc();
+    for words in [
+        "run x",
+        "",
+        "stop",
+        "init 1 2",
+        "init 0 2 1",
+        "init 65537 2 1",
+        "init 1 1 1",
+        "init 1 6 1",
+        "init 1 2 0",
+        "init 1 2 513",
+        "init 01 2 1",
+        "init +1 2 1",
+    ] {
+        let mut device = Steady::new(alloc, BLOCKS)?;
+        let mut source = SteadySource::new(owned(alloc, &["put a 1\n"])?);
+        let mut sink = MemSink::new(alloc, 9, 9, Vec::new(alloc))?;
+        let status = run_over(alloc, words, &mut source, &mut sink, &mut device)?;
+        assert_eq!(rt; status, 1, "of {words:?}");
         assert_eq!(rt; sink.taken(), b"".as_slice());
-        assert_eq!(rt; source.read(&mut Page::new(rt.alloc())?), Ok(8));
-        let (replies, _) = run(rt.alloc(), &mut device, &["get a\n"])?;
-        assert_eq!(rt; replies.as_slice(), b"NONE\n".as_slice());
+        assert_eq!(rt; source.read(&mut Page::new(alloc)?), Ok(8));
+        assert_eq!(rt; device.reads(), 0);
     }
     Ok(())
 }
 
 #[test]
-fn a_device_that_fails_ends_the_run(rt: HostRuntime) -> Result<(), NoMemory> {
+fn a_store_is_made_where_there_is_room_and_nothing_else(rt: HostRuntime) -> Result<(), NoMemory> {
     let alloc = rt.alloc();
-    let mut device = MemDevice::new(alloc, 4, 9, vec![in alloc; 0]?, None)?;
-    let (replies, status) = run(alloc, &mut device, &["put a 1\n"])?;
-    assert_eq!(rt; replies.as_slice(), b"".as_slice());
-    assert_eq!(rt; status, 4);
-    Ok(())
-}
-
-#[test]
-fn a_source_that_fails_ends_the_run(rt: HostRuntime) -> Result<(), NoMemory> {
-    let alloc = rt.alloc();
-    let mut device = Steady::new(alloc, 4)?;
-    let failing = vec![in alloc; 1]?;
-    let (replies, status) = run_failing(
-        alloc,
-        &mut device,
-        &["put a 1\n"],
-        failing,
-        Vec::new(alloc),
-    )?;
-    assert_eq!(rt; replies.as_slice(), b"OK\n".as_slice());
-    assert_eq!(rt; status, 2);
-    Ok(())
-}
-
-#[test]
-fn a_put_is_kept_though_the_sink_fails(rt: HostRuntime) -> Result<(), NoMemory> {
-    let alloc = rt.alloc();
-    let mut device = Steady::new(alloc, 4)?;
-    let failing = vec![in alloc; 0]?;
-    let (replies, status) = run_failing(
-        alloc,
-        &mut device,
-        &["put a 1\n"],
-        Vec::new(alloc),
-        failing,
-    )?;
-    assert_eq!(rt; replies.as_slice(), b"".as_slice());
-    assert_eq!(rt; status, 3);
-    let (replies, status) = run(alloc, &mut device, &["get a\n"])?;
-    assert_eq!(rt; replies.as_slice(), b"VALUE 1\n".as_slice());
-    assert_eq!(rt; status, 0);
-    Ok(())
-}
-
-/// So many puts, a get after each, a line for each; the keys come again.
-fn many_lines(alloc: Global, count: u8) -> Result<Vec<u8>, NoMemory> {
-    let mut lines = Vec::new(alloc);
-    for number in 0..count {
-        let key = b'a' + number % 7;
-        lines.extend_from_slice(&[b'p', b'u', b't', b' ', key, b' ', b'0' + number % 10, b'\n'])?;
-        lines.extend_from_slice(&[b'g', b'e', b't', b' ', key, b'\n'])?;
-    }
-    Ok(lines)
-}
-
-/// The bytes in pieces of so many bytes.
-fn cut(alloc: Global, bytes: &[u8], len: usize) -> Result<SteadySource, NoMemory> {
-    let mut pieces = Vec::new(alloc);
-    for piece in bytes.chunks(len.max(1)) {
-        pieces.push(piece.to_vec(alloc)?)?;
-    }
-    Ok(SteadySource::new(pieces))
-}
-
-#[test]
-fn the_cuts_of_the_input_do_not_matter(rt: HostRuntime) -> Result<(), NoMemory> {
-    let alloc = rt.alloc();
-    let lines = many_lines(alloc, 120)?;
-    let mut wanted = Vec::new(alloc);
-    for len in [4096, 14, 1] {
-        let mut device = Steady::new(alloc, 200)?;
-        let mut source = cut(alloc, &lines, len)?;
-        let mut sink = MemSink::new(alloc, 9999, 1, Vec::new(alloc))?;
-        let status = run_over(alloc, "run", &mut source, &mut sink, &mut device)?;
-        assert_eq!(rt; status, 0);
-        if wanted.is_empty() {
-            wanted.extend_from_slice(sink.taken())?;
-            // 100 puts are kept and 20 find no slot; each get finds a value of one byte.
-            assert_eq!(rt; wanted.len(), 100 * 3 + 20 * 9 + 120 * 8);
-        }
-        assert_eq!(rt; sink.taken(), wanted.as_slice());
+    let mut device = made(alloc)?;
+    let answer = run_words(alloc, &mut device, "init 1 2 1", &[])?;
+    assert!(rt; shows(&answer, "OCCUPIED\n", 6));
+    for (blocks, want) in [(936, "TOO SMALL 937 936\n"), (0, "TOO SMALL 937 0\n")] {
+        let mut device = Steady::new(alloc, blocks)?;
+        let answer = run_words(alloc, &mut device, "init 1 2 1", &[])?;
+        assert!(rt; shows(&answer, want, 6));
+        let answer = run(alloc, &mut device, &["get a\n"])?;
+        assert!(rt; shows(&answer, "DAMAGED 0\n", 5));
     }
     Ok(())
 }
 
 #[test]
-fn a_put_under_way_is_there_whole_or_not_at_all(rt: HostRuntime) -> Result<(), NoMemory> {
+fn a_write_under_way_is_there_whole_or_not_at_all(rt: HostRuntime) -> Result<(), NoMemory> {
     let alloc = rt.alloc();
-    let mut device = MemDevice::new(alloc, 4, 99, Vec::new(alloc), Some(9))?;
-    let (replies, status) = run(alloc, &mut device, &["put a 1\n", "put b 2\n"])?;
-    assert_eq!(rt; replies.as_slice(), b"OK\n".as_slice());
-    assert_eq!(rt; status, 4);
+    let mut first = MemDevice::new(alloc, 1384, CALLS, Vec::new(alloc), None)?;
+    run_words(alloc, &mut first, "init 4 2 64", &[])?;
+    // Each put writes its content, syncs, writes its gate and syncs.
+    let opening = opening_reads(alloc, &first)?;
+    let stop = Some(opening.saturating_add(7));
+    let mut device = first.crash(alloc, &[], CALLS, Vec::new(alloc), stop)?;
+    let answer = run(alloc, &mut device, &["put a 1\n", "put b 2\n"])?;
+    assert!(rt; shows(&answer, "OK\n", 4));
     let rows = [
         (1, "VALUE 1\nVALUE 2\n"),
         (0, "VALUE 1\nNONE\n"),
         (2, "VALUE 1\nNONE\n"),
     ];
     for (byte, want) in rows {
-        let mut left = device.crash(alloc, &[Pick::Filled(byte)], 99, Vec::new(alloc), None)?;
-        let (replies, status) = run(alloc, &mut left, &["get a\nget b\n"])?;
-        assert_eq!(rt; replies.as_slice(), want.as_bytes(), "of {byte}");
-        assert_eq!(rt; status, 0);
+        let mut left = device.crash(alloc, &[Pick::Filled(byte)], CALLS, Vec::new(alloc), None)?;
+        let answer = run(alloc, &mut left, &["get a\nget b\n"])?;
+        assert!(rt; shows(&answer, want, 0), "of {byte}");
     }
     Ok(())
 }
 
 #[test]
 fn a_block_that_does_not_stand_is_named(rt: HostRuntime) -> Result<(), NoMemory> {
-    let rows = [
-        (2, "DAMAGED 2\n", 5),
-        (0, "DAMAGED 1\n", 5),
-        (1, "NONE\n", 0),
-    ];
-    for (block, want, code) in rows {
-        let mut device = Steady::new(rt.alloc(), 4)?;
-        one_block_filled(rt.alloc(), &mut device, block)?;
-        let (replies, status) = run(rt.alloc(), &mut device, &["get a\n"])?;
-        assert_eq!(rt; replies.as_slice(), want.as_bytes());
-        assert_eq!(rt; status, code);
+    let alloc = rt.alloc();
+    // A manifest that names extent 1, where there is extent 0 alone.
+    let mut device = made(alloc)?;
+    spoil(alloc, &mut device, 2, 16, &[0, 0, 0, 1, 0, 0, 0, 59])?;
+    spoil(
+        alloc,
+        &mut device,
+        2,
+        40,
+        &[0, 0, 0, 0, 0, 0, 0, 0, 0, 0, 1, 0, 0, 0, 0, 0, 0, 0, 1],
+    )?;
+    let answer = run(alloc, &mut device, &["get a\n"])?;
+    assert!(rt; shows(&answer, "DAMAGED 2\n", 5));
+
+    // A bucket that a get asks for.
+    let mut device = made_with_two(alloc)?;
+    spoil(alloc, &mut device, HOME_OF_A, 0, &[255; Page::LEN])?;
+    let answer = run(alloc, &mut device, &["get b\n", "get a\n", "get b\n"])?;
+    assert!(rt; shows(&answer, "VALUE 2\nDAMAGED 929\n", 5));
+    Ok(())
+}
+
+/// Copies a block, where both devices have it.
+fn copy<A: Device, B: Device>(
+    alloc: Global,
+    from: &mut A,
+    to: &mut B,
+    block: u64,
+) -> Result<(), NoMemory> {
+    let mut page = Page::new(alloc)?;
+    if block < from.blocks() && block < to.blocks() {
+        let _ = from.read(block, &mut page);
+        let _ = to.write(block, &page);
     }
     Ok(())
 }
 
 #[test]
+fn a_manifest_of_more_blocks_than_there_are_is_damaged(rt: HostRuntime) -> Result<(), NoMemory> {
+    let alloc = rt.alloc();
+    let mut whole = made(alloc)?;
+    let mut short = Steady::new(alloc, BLOCKS - 1)?;
+    for block in 0..3 {
+        copy(alloc, &mut whole, &mut short, block)?;
+    }
+    let answer = run(alloc, &mut short, &["get a\n"])?;
+    assert!(rt; shows(&answer, "DAMAGED 2\n", 5));
+    Ok(())
+}
+
+#[test]
+fn a_read_that_fails_loses_nothing(rt: HostRuntime) -> Result<(), NoMemory> {
+    let alloc = rt.alloc();
+    let device = made_with_two(alloc)?;
+    let failing = vec![in alloc; opening_reads(alloc, &device)?]?;
+    let mut failing = device.crash(alloc, &[], CALLS, failing, None)?;
+    let answer = run(alloc, &mut failing, &["get b\n", "get a\n"])?;
+    assert!(rt; shows(&answer, "VALUE 2\n", 4));
+    let mut again = failing.crash(alloc, &[], CALLS, Vec::new(alloc), None)?;
+    let answer = run(alloc, &mut again, &["get b\n", "get a\n"])?;
+    assert!(rt; shows(&answer, "VALUE 2\nVALUE 1\n", 0));
+    Ok(())
+}
+
+#[test]
+fn the_last_number_of_writes_is_a_limit(rt: HostRuntime) -> Result<(), NoMemory> {
+    let alloc = rt.alloc();
+    let mut device = made(alloc)?;
+    spoil(alloc, &mut device, 2, 8, &[255; 8])?;
+    let answer = run(alloc, &mut device, &["put k v\nget k\n"])?;
+    assert!(rt; shows(&answer, "LIMIT\nNONE\n", 0));
+    Ok(())
+}
+
+#[test]
+fn a_source_or_a_sink_that_fails_ends_the_run(rt: HostRuntime) -> Result<(), NoMemory> {
+    let alloc = rt.alloc();
+    let mut device = made(alloc)?;
+    let second = vec![in alloc; 1]?;
+    let answer = run_failing(alloc, &mut device, &["put a 1\n"], second, Vec::new(alloc))?;
+    assert!(rt; shows(&answer, "OK\n", 2));
+
+    let mut device = made(alloc)?;
+    let first = vec![in alloc; 0]?;
+    let answer = run_failing(alloc, &mut device, &["put a 1\n"], Vec::new(alloc), first)?;
+    assert!(rt; shows(&answer, "", 3));
+    let answer = run(alloc, &mut device, &["get a\n"])?;
+    assert!(rt; shows(&answer, "VALUE 1\n", 0));
+    Ok(())
+}
+
+/// The replies to `get a`, `get b` and `get c` after none to all of their puts.
+const KEPT: [&str; 4] = [
+    "NONE\nNONE\nNONE\n",
+    "VALUE 1\nNONE\nNONE\n",
+    "VALUE 1\nVALUE 2\nNONE\n",
+    "VALUE 1\nVALUE 2\nVALUE 3\n",
+];
+
+#[test]
 fn each_crash_keeps_what_was_acknowledged(rt: HostRuntime) -> Result<(), NoMemory> {
     let alloc = rt.alloc();
-    // Four gates are read, then each put makes four calls: content, sync, gate, sync. A write that fails may
-    // still have been made.
-    for stop in 0..17 {
-        let mut device = MemDevice::new(alloc, 8, 99, Vec::new(alloc), Some(stop))?;
-        let (replies, _) = run(alloc, &mut device, &[PUTS])?;
-        let acknowledged = replies.len() / 3;
-        assert_eq!(rt; acknowledged as u64, stop.saturating_sub(4) / 4);
-        let gate_is_written = stop > 4 && stop % 4 >= 2;
+    let mut first = MemDevice::new(alloc, BLOCKS + 65, CALLS, Vec::new(alloc), None)?;
+    run_words(alloc, &mut first, "init 2 2 1", &[])?;
+    // The second put and the third flush the one before.
+    let pieces = ["put a 1\n", "put b 2\n", "put c 3\n"];
+    for stop in 0..60 {
+        let mut device = first.crash(alloc, &[], CALLS, Vec::new(alloc), Some(stop * 6))?;
+        let (shown, _) = run(alloc, &mut device, &pieces)?;
+        let acknowledged = shown.len() / 3;
         for pick in [Pick::Stable, Pick::Written, Pick::Filled(1)] {
-            let mut left = device.crash(alloc, &[pick], 99, Vec::new(alloc), None)?;
-            let (replies, status) = run(alloc, &mut left, &[GETS])?;
-            let kept = match gate_is_written && pick != Pick::Stable {
-                true => KEPT.get(acknowledged + 1),
-                false => KEPT.get(acknowledged),
-            };
+            let picks = vec![in alloc; pick; 200]?;
+            let mut left = device.crash(alloc, &picks, CALLS, Vec::new(alloc), None)?;
+            let (values, status) = run(alloc, &mut left, &["get a\nget b\nget c\n"])?;
             assert_eq!(rt; status, 0);
-            assert_eq!(rt;
-                Some(replies.as_slice()),
-                kept.map(|text| text.as_bytes()),
-                "of {stop}"
+            assert!(rt;
+                KEPT.iter()
+                    .skip(acknowledged)
+                    .take(2)
+                    .any(|kept| values.as_slice() == kept.as_bytes()),
+                "stopped at {stop}, {pick:?}"
             );
         }
     }

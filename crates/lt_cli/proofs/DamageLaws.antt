@@ -1,0 +1,43 @@
+-- Telling a damaged block behind what was shown.
+use Rattle.std.proofs.Common.{◌≡◌, ◌⊎◌, ℕ, ◌≤◌, refl, sym, subst, inl, inr, List, [], ◌++◌, append-nil, Option, Result, Ok, Err, OnOk, OnErr, arith}
+use Rattle.lt_terms.specs.Causes.{Rose, HasCause}
+use Rattle.lt_page.specs.declared.errors.Failed.{Failed}
+use Rattle.lt_device.specs.State as told
+use Rattle.lt_io.specs.Sink.{Gains, GainsFront}
+use Rattle.lt_io.proofs.Flows.{Gains-none, Gains-more, GainsFront-more}
+use Rattle.lt_serve.specs.Serving.{GainsSome}
+use Rattle.lt_store.specs.Damage.{StopsGet, StopsOpening}
+use Rattle.lt_cli.specs.Promise.{FoundDamage}
+use Rattle.lt_cli.specs.Telling.{damage_line}
+
+module _ (stands0 stands1 stands : List ℕ → Type 0) (faults0 faults1 faults : ℕ) (line shown : List ℕ) (gained : Gains stands0 stands1 shown) (later : faults0 ≤ faults1) where
+  -- a front of the line was told behind what was shown
+  told-front : (r : Result (Unit {0}) Failed) → OnOk r (Gains stands1 stands line) → OnErr r (GainsFront stands1 stands line) → GainsFront stands0 stands (shown ++ line)
+  told-front (Ok u) all front = record { shown = shown ++ line; hidden = []; whole = sym (append-nil (shown ++ line)); gained = Gains-more stands0 stands1 stands shown line gained all }
+  told-front (Err e) all front = GainsFront-more stands0 stands1 stands shown line gained front
+
+  -- and all of it where the sink's count did not rise
+  told-whole : (r : Result (Unit {0}) Failed) → OnOk r (Gains stands1 stands line) → HasCause faults1 faults r → (Rose faults0 faults → ⊥) → Gains stands0 stands (shown ++ line)
+  told-whole (Ok u) all cause still = Gains-more stands0 stands1 stands shown line gained all
+  told-whole (Err e) all cause still = absurd (let rose : Rose faults1 faults = cause.failed in still (omega (arith, rose, later)))
+
+-- where serving stopped at a damaged block, it is found
+pub found-damage : (left0 left : Option (List ℕ)) (stands0 stands1 stands : List ℕ → Type 0) (faults0 faults1 faults : ℕ) (old new : told.State) (block : ℕ) (r : Result (Unit {0}) Failed) → GainsSome stands0 stands1 → faults0 ≤ faults1
+    → OnOk r (Gains stands1 stands (damage_line block)) → OnErr r (GainsFront stands1 stands (damage_line block)) → HasCause faults1 faults r
+    → (StopsOpening old block × (new ≡ old) × (left ≡ left0) × (stands1 ≡ stands0)) ⊎ StopsGet new block → FoundDamage left0 left stands0 stands faults0 faults old new
+found-damage left0 left stands0 stands1 stands faults0 faults1 faults old new block r some later all front cause (inl opening) =
+    let gained : Gains stands0 stands1 [] = subst (λ (s : List ℕ → Type 0). Gains stands0 s []) (sym opening.3) (Gains-none stands0) in
+    record {
+      block = block;
+      shown = [];
+      front = told-front stands0 stands1 stands faults0 faults1 faults (damage_line block) [] gained later r all front;
+      whole = told-whole stands0 stands1 stands faults0 faults1 faults (damage_line block) [] gained later r all cause;
+      damaged = inl (opening.0, opening.1, opening.2, refl);
+    }
+found-damage left0 left stands0 stands1 stands faults0 faults1 faults old new block r some later all front cause (inr get) = record {
+  block = block;
+  shown = some.shown;
+  front = told-front stands0 stands1 stands faults0 faults1 faults (damage_line block) some.shown some.gained later r all front;
+  whole = told-whole stands0 stands1 stands faults0 faults1 faults (damage_line block) some.shown some.gained later r all cause;
+  damaged = inr get;
+}

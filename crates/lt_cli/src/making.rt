@@ -1,0 +1,50 @@
+//! The word `init`.
+
+ghost use Rattle.std.specs.Prelude.{◌≡◌, ◌<◌, ◌≤◌, IsTrue};
+ghost use Rattle.lt_terms.specs.Causes.{Rose};
+ghost use Rattle.lt_format.specs.Layout.{blocks_needed, is_geometry};
+ghost use Rattle.lt_cli.specs.Making.{IsMade, IsRefused};
+ghost use Rattle.lt_cli.specs.Statuses.{IsInitEnd};
+
+use crate::status::Status;
+use crate::telling::tell_small;
+use lt_device::Device;
+use lt_io::{Sink, write_all};
+use lt_store::{InitFault, init};
+use std::alloc::Global;
+
+/// Makes a store.
+pub(super) fn make<K: Sink, D: Device>(
+    alloc: Global,
+    sink: &mut K,
+    device: &mut D,
+    extents: u32,
+    levels: u8,
+    slots: u16,
+) -> Status
+    requires geometry { IsTrue (is_geometry (record { levels = levels; slots = slots })) }
+    requires least { 1 ≤ extents }
+    requires most { extents ≤ 65536 }
+    ensures end { IsInitEnd result }
+    ensures made { result ≡ Status.Done → IsMade (record { levels = levels; slots = slots }) extents (D.blocks device.old) (D.state device.old) (D.state device.new) }
+    ensures small { D.blocks device.old < blocks_needed (record { levels = levels; slots = slots }) extents → result ≡ Status.Refused }
+    ensures refused { result ≡ Status.Refused
+        → IsRefused (record { levels = levels; slots = slots }) extents (D.blocks device.old) (K.stands sink.old) (K.stands sink.new) (K.faults sink.old) (K.faults sink.new) (D.state device.old) (D.state device.new) }
+    ensures quiet { (result ≡ Status.Refused → ⊥) → sink.new ≡ sink.old }
+    ensures device { result ≡ Status.DeviceFault → Rose (D.faults device.old) (D.faults device.new) }
+{
+    match init(alloc, device, extents, levels, slots) {
+        Ok(()) => Status::Done,
+        Err(InitFault::Device) => Status::DeviceFault,
+        Err(InitFault::NoMemory) => Status::NoMemory,
+        Err(InitFault::Occupied) => {
+            // A sink fault leaves the status.
+            let _ = write_all(sink, b"OCCUPIED\n");
+            Status::Refused
+        }
+        Err(InitFault::TooSmall { needed, has }) => {
+            let _ = tell_small(sink, needed, has);
+            Status::Refused
+        }
+    }
+}

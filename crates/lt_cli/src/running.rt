@@ -1,0 +1,46 @@
+//! The word `run`.
+
+ghost use Rattle.std.specs.Prelude.{◌≡◌, ◌^◌};
+ghost use Rattle.lt_terms.specs.Causes.{Rose, RoseBy};
+ghost use Rattle.lt_language.specs.Machine.{State};
+ghost use Rattle.lt_store.specs.Open.{Rests};
+ghost use Rattle.lt_cli.specs.Promise.{Ended, FoundDamage};
+ghost use Rattle.lt_cli.specs.Statuses.{IsRunEnd};
+
+use crate::status::Status;
+use crate::telling::tell_damage;
+use lt_device::Device;
+use lt_io::{Sink, Source};
+use lt_serve::{Served, serve};
+use std::alloc::Global;
+
+/// Serves the store of a device.
+pub(super) fn run<S: Source, K: Sink, D: Device>(
+    alloc: Global,
+    source: &mut S,
+    sink: &mut K,
+    device: &mut D,
+) -> Status
+    ensures over { (before : State) (r : Rests before (D.state device.old))
+        → Ended r.rest.named.manifest.header.extents before result (S.left source.old) (S.left source.new) (K.stands sink.old) (K.stands sink.new) (K.faults sink.old) (K.faults sink.new) (D.state device.old) (D.state device.new) }
+    ensures end { IsRunEnd result }
+    ensures damaged { result ≡ Status.Damaged → FoundDamage (S.left source.old) (S.left source.new) (K.stands sink.old) (K.stands sink.new) (K.faults sink.old) (K.faults sink.new) (D.state device.old) (D.state device.new) }
+    ensures source { result ≡ Status.SourceFault → Rose (S.faults source.old) (S.faults source.new) }
+    ensures sink { result ≡ Status.SinkFault → Rose (K.faults sink.old) (K.faults sink.new) }
+    ensures device { result ≡ Status.DeviceFault → Rose (D.faults device.old) (D.faults device.new) }
+    ensures turns { result ≡ Status.Turns → RoseBy (2 ^ 48) (S.pieces source.old) (S.pieces source.new) }
+{
+    match serve(alloc, source, sink, device) {
+        Served::Done => Status::Done,
+        Served::Source => Status::SourceFault,
+        Served::Sink => Status::SinkFault,
+        Served::Device => Status::DeviceFault,
+        Served::Damaged(block) => {
+            // A sink fault leaves the status.
+            let _ = tell_damage(sink, block);
+            Status::Damaged
+        }
+        Served::NoMemory => Status::NoMemory,
+        Served::Turns => Status::Turns,
+    }
+}
