@@ -2,6 +2,7 @@
 use Rattle.std.proofs.Common.{◌≡◌, ℕ, ◌≤◌, refl, sym, ap, subst, ◌∙◌, List, [], ◌∷◌, ◌++◌, take, length, append-nil, Bool, true, false, Option, Some, None, arith}
 use Rattle.std.proofs.lemmas.List.{take_all}
 use Rattle.lt_terms.specs.Items.{Item}
+use Rattle.lt_device.specs.Moments.{Leaves}
 use Rattle.lt_device.specs.State as told
 use Rattle.lt_image.specs.Standing.{after_writes}
 use Rattle.lt_image.proofs.KeptLaws.{no_writes}
@@ -21,8 +22,9 @@ use Rattle.lt_store.specs.declared.faults.WriteFault.TheVariants as faults
 use Rattle.lt_store.specs.declared.writing.Taken.TheVariants as answer
 use Rattle.lt_store.specs.Acting.{IsStep, accepted_as, command_of, reply_of, write_of}
 use Rattle.lt_store.specs.Going.{Goes, Survives}
-use Rattle.lt_store.specs.Open.{IsOpen, Rests, StoreView, extents_of, state_of}
+use Rattle.lt_store.specs.Open.{IsOpen, IsRooted, Rests, StoreView, extents_of, state_of}
 use Rattle.lt_store.proofs.GoLaws.{goes-none, open-rests}
+use Rattle.lt_store.proofs.RootedLaws.{rooted-none}
 use Rattle.lt_serve.specs.Acting.{Answers, Lost}
 use Rattle.lt_serve.specs.Faults.{round_fault_of}
 use Rattle.lt_serve.specs.Outcomes.{HasValue, is_taken, most_text, outcome_text, reply_text}
@@ -109,14 +111,15 @@ same-text outcomes.Committed page value front has = refl
 
 answers-reply : (v w : StoreView) (durable : State) (command : Command) (item : Option Item) (outcome : Outcome) (reply : Option Reply) (waiting0 waiting : Waiting) (old new : told.State)
     → IsStep (extents_of v) (state_of v durable) (Some command) reply (after_writes (state_of v durable) (accepted_as outcome item)) → IsTakenAs command item outcome reply → IsOkAs outcome reply
-    → Goes v (accepted_as outcome item) w durable old new → length (reply_text reply) ≤ waiting0.room → waiting ≡ with_text waiting0 (reply_text reply)
+    → Goes v (accepted_as outcome item) w durable old new → Leaves IsRooted old new → length (reply_text reply) ≤ waiting0.room → waiting ≡ with_text waiting0 (reply_text reply)
     → Answers v durable command (is_taken outcome) waiting0 waiting w old new
-answers-reply v w durable command item outcome None waiting0 waiting old new step taken ok goes fits told = absurd step
-answers-reply v w durable command item outcome (Some reply) waiting0 waiting old new step taken ok goes fits told = record {
+answers-reply v w durable command item outcome None waiting0 waiting old new step taken ok goes rooted fits told = absurd step
+answers-reply v w durable command item outcome (Some reply) waiting0 waiting old new step taken ok goes rooted fits told = record {
   reply = reply;
   writes = accepted_as outcome item;
   runs = runs-one (extents_of v) (state_of v durable) command reply (accepted_as outcome item) step taken;
   goes = goes;
+  rooted = rooted;
   taken_is = ok;
   fits = fits;
   told = told;
@@ -126,16 +129,16 @@ answers-reply v w durable command item outcome (Some reply) waiting0 waiting old
 pub answers-event : (v w : StoreView) (durable : State) (event : EventView) (command : Command) (outcome : Outcome) (page value : List ℕ) (waiting0 waiting : Waiting) (old new : told.State)
     → command_of event ≡ Some command
     → IsStep (extents_of v) (state_of v durable) (command_of event) (reply_of outcome page) (after_writes (state_of v durable) (accepted_as outcome (write_of event)))
-    → Goes v (accepted_as outcome (write_of event)) w durable old new
+    → Goes v (accepted_as outcome (write_of event)) w durable old new → Leaves IsRooted old new
     → ((n : ℕ) → outcome ≡ outcomes.Value n → value ≡ take n page) → HasValue outcome value
     → length (outcome_text outcome value) ≤ most_text → 3007 ≤ waiting0.room → waiting ≡ with_text waiting0 (outcome_text outcome value)
     → Answers v durable command (is_taken outcome) waiting0 waiting w old new
-answers-event v w durable event command outcome page value waiting0 waiting old new is step goes front has short room told =
+answers-event v w durable event command outcome page value waiting0 waiting old new is step goes rooted front has short room told =
     let same : outcome_text outcome value ≡ reply_text (reply_of outcome page) = same-text outcome page value front has in
     let len : length (outcome_text outcome value) ≡ length (reply_text (reply_of outcome page)) = ap length same in
     answers-reply v w durable command (write_of event) outcome (reply_of outcome page) waiting0 waiting old new
     (subst (λ (x : Option Command). IsStep (extents_of v) (state_of v durable) x (reply_of outcome page) (after_writes (state_of v durable) (accepted_as outcome (write_of event)))) is step)
-    (taken-event event command outcome page is) (ok-as outcome page) goes (omega arith) (told ∙ ap (with_text waiting0) same)
+    (taken-event event command outcome page is) (ok-as outcome page) goes rooted (omega arith) (told ∙ ap (with_text waiting0) same)
 
 -- a line was refused
 pub answers-bad : (v : StoreView) (durable : State) (kind : Bad) (waiting0 waiting : Waiting) (s : told.State) → IsOpen v durable s
@@ -145,6 +148,7 @@ answers-bad v durable kind waiting0 waiting s opened short room told = record {
   writes = [];
   runs = runs-one (extents_of v) (state_of v durable) (commands.bad kind) (replies.bad kind) [] (refl, no_writes (state_of v durable)) refl;
   goes = goes-none v durable s opened;
+  rooted = rooted-none v durable s opened;
   taken_is = refl;
   fits = omega arith;
   told = told;
@@ -153,13 +157,14 @@ answers-bad v durable kind waiting0 waiting s opened short room told = record {
 -- ---- and one that was not
 
 -- where the store is still up, the device is at rest
-pub lost-event : (v w : StoreView) (durable : State) (fault : WriteFault) (up : Bool) (old new : told.State) → Survives v [] durable old new
+pub lost-event : (v w : StoreView) (durable : State) (fault : WriteFault) (up : Bool) (old new : told.State) → Survives v [] durable old new → Leaves IsRooted old new
     → (up ≡ true → Goes v [] w durable old new) → (up ≡ false → fault ≡ faults.Device) → ((b : ℕ) → fault ≡ faults.Damaged b → ⊥) → Lost v durable (round_fault_of fault) old new
-lost-event v w durable faults.Device up old new survives goes down sound = record { lost = tt; survives = survives; rests = λ is. absurd (cc) }
-lost-event v w durable (faults.Damaged b) up old new survives goes down sound = absurd (sound b refl)
-lost-event v w durable faults.NoMemory false old new survives goes down sound = let never = down refl in absurd (cc)
-lost-event v w durable faults.NoMemory true old new survives goes down sound = record {
+lost-event v w durable faults.Device up old new survives rooted goes down sound = record { lost = tt; survives = survives; rooted = rooted; rests = λ is. absurd (cc) }
+lost-event v w durable (faults.Damaged b) up old new survives rooted goes down sound = absurd (sound b refl)
+lost-event v w durable faults.NoMemory false old new survives rooted goes down sound = let never = down refl in absurd (cc)
+lost-event v w durable faults.NoMemory true old new survives rooted goes down sound = record {
   lost = tt;
   survives = survives;
+  rooted = rooted;
   rests = λ is. let g = goes refl in (g.sure, subst (λ xs. Rests (after_writes durable (take g.sure xs)) new) (append-nil v.log.pending) (open-rests w (after_writes durable (take g.sure (v.log.pending ++ []))) new g.opened));
 }

@@ -117,6 +117,7 @@ module _ (e : ℕ) (before : State) (input output kept : List ℕ) (w : StoreVie
     far = reached-far;
     whole = λ inner still. (length r.replies, r.text ∙ ap texts (sym (take_all (length r.replies) r.replies (omega arith))));
     since = r.since;
+    rooted = r.rooted;
     at_exit = open-has w before r.writes (acknowledged r.replies (length output)) now r.opened reached-sure;
     rests = λ short. rests-whole before r.writes now reached-rests;
     rests_all = λ settled. reached-rests;
@@ -138,6 +139,7 @@ module _ (e : ℕ) (before : State) (input output kept : List ℕ) (w : StoreVie
     far = reached-far;
     whole = λ inner. absurd inner;
     since = r.since;
+    rooted = r.rooted;
     at_exit = open-has w before r.writes (acknowledged r.replies (length output)) now r.opened reached-sure;
     rests = λ short. rests-whole before r.writes now reached-rests;
     rests_all = λ settled. reached-rests;
@@ -164,6 +166,7 @@ module _ (e : ℕ) (before : State) (input output kept : List ℕ) (w : StoreVie
         far = λ front later is long. shows (length (lines_of front)) r.replies last (output ++ added) added (lines-answered e before input r.replies r.writes r.runs front later is) (ap (λ xs. xs ++ added) r.text);
         whole = λ i. absurd (inner i);
         since = r.since;
+        rooted = r.rooted;
         at_exit = open-has w before r.writes (acknowledged (r.replies ++ last) (length (output ++ added))) now r.opened
             (let a = acknowledged-append (r.replies ++ last) [] (length (output ++ added)) (omega (arith, ap length whole, length-append (output ++ added) behind)) in
             let b = runs-counts e before (commands input ++ bad End ∷ []) (r.replies ++ last) r.writes runs in

@@ -19,6 +19,7 @@ use Rattle.lt_line.specs.Held.{kept_of}
 use Rattle.lt_line.specs.Waiting.{Waiting, nothing_waits}
 use Rattle.lt_store.specs.Open.{StoreView, IsOpen, Rests}
 use Rattle.lt_store.proofs.GoLaws.{open-rests}
+use Rattle.lt_store.proofs.RootedLaws.{rooted-joins}
 use Rattle.lt_serve.specs.declared.faults.RoundFault.{RoundFault}
 use Rattle.lt_serve.specs.declared.faults.RoundFault.TheVariants as faults
 use Rattle.lt_serve.specs.declared.served.Served.{Served}
@@ -58,6 +59,7 @@ piece-untold e s bytes more kept waiting0 waiting unsent w count stands0 stands 
       halt = tt;
       whole = λ inner. absurd inner;
       since = p.since;
+      rooted = p.rooted;
       at_exit = open-has w s p.writes (ok_count p.replies) new p.opened (runs-counts e s (commands bytes) p.replies p.writes p.runs);
       rests = λ short. absurd (cc (short));
       rests_all = λ settled. open-rests w (after_writes s p.writes) new p.opened;
@@ -125,6 +127,7 @@ piece-stopped e s bytes fault waiting unsent stands0 stands faults0 faults old n
       halt = halts fault p.lost;
       whole = λ inner. t.all;
       since = p.since;
+      rooted = p.rooted;
       at_exit = λ left may. subst (λ (k : ℕ). IsPrefix left s p.writes k) (sym p.unwritten) (p.since.now left may);
       rests = λ short. p.rests (was-short fault short);
       rests_all = λ settled. absurd (not-settled fault settled);
@@ -164,6 +167,7 @@ module _ (e : ℕ) (before : State) (input output kept : List ℕ) (w : StoreVie
     line = p.line ∙ ap kept_of (sym (rest_of-append input piece));
     opened = let joined : after_writes (after_writes before r.writes) p.writes ≡ after_writes before (r.writes ++ p.writes) = writes-joined before r.writes p.writes in subst (λ (t : State). IsOpen x t new) joined p.opened;
     since = since-more before r.writes p.writes start mid new r.since p.since;
+    rooted = rooted-joins start mid new p.rooted r.rooted;
   }
 
   -- and all of it was told
@@ -202,6 +206,7 @@ module _ (e : ℕ) (before : State) (input output kept : List ℕ) (w : StoreVie
             let all : output ++ p.output ≡ texts told = sym (text_told ∙ ap (λ xs. (output ++ p.output) ++ xs) none ∙ append-nil (output ++ p.output)) in
             (length told, all ∙ ap texts (sym (take_at told p.hidden (length told) refl) ∙ ap (take (length told)) (sym regroup)));
         since = since-more before r.writes p.writes start mid new r.since p.since;
+        rooted = rooted-joins start mid new p.rooted r.rooted;
         at_exit = λ left may.
             let n : length (output ++ p.output) ≤ length (texts told) = omega (arith, ap length text_told, length-append (output ++ p.output) p.behind) in
             let a = acknowledged-append told p.hidden (length (output ++ p.output)) n in
@@ -236,6 +241,7 @@ over-earlier e before status input output first faults0 faults start new le o = 
   far = o.far;
   whole = λ inner still. o.whole inner (λ (rose : Rose faults0 faults). still (omega (arith, rose, le)));
   since = o.since;
+  rooted = o.rooted;
   at_exit = o.at_exit;
   rests = o.rests;
   rests_all = o.rests_all;

@@ -16,8 +16,9 @@ use Rattle.lt_line.specs.Held.{kept_of}
 use Rattle.lt_line.specs.Waiting.{Waiting, all_settled}
 use Rattle.lt_line.proofs.HeldLaws.{kept_of-append, kept_of-none}
 use Rattle.lt_store.specs.Going.{Goes, Survives}
-use Rattle.lt_store.specs.Open.{IsOpen, Rests, StoreView, extents_of, state_of}
+use Rattle.lt_store.specs.Open.{IsOpen, IsRooted, Rests, StoreView, extents_of, state_of}
 use Rattle.lt_store.proofs.GoLaws.{goes-none, goes-behind, breaks-behind, goes-state}
+use Rattle.lt_store.proofs.RootedLaws.{rooted-joins, rooted-none}
 use Rattle.lt_serve.specs.declared.faults.RoundFault.{RoundFault}
 use Rattle.lt_serve.specs.declared.faults.RoundFault.TheVariants as faults
 use Rattle.lt_serve.specs.Acting.{Answered, Answers, Lost, settled_unless}
@@ -80,6 +81,7 @@ went-none v durable rest kept waiting s opened free line none = record {
   none = λ is. refl;
   some = λ is. absurd (false≢true is);
   goes = goes-none v durable s opened;
+  rooted = rooted-none v durable s opened;
 }
 
 -- the unfinished line goes on
@@ -99,6 +101,7 @@ went-on v durable bytes chunk kept kept' wrote waiting0 waiting w old new went f
   none = went.none;
   some = went.some;
   goes = went.goes;
+  rooted = went.rooted;
 }
 
 -- what is kept of the line that ends here
@@ -131,6 +134,9 @@ module _ (v : StoreView) (durable : State) (bytes chunk kept : List ℕ) (wrote0
   unfolding now
   goes-further wrote a = goes-behind v w went.writes durable old mid went.goes x a.writes new a.goes
 
+  rooted-further : (wrote : Bool) → Line wrote → Leaves IsRooted old new
+  rooted-further wrote a = rooted-joins old mid new a.rooted went.rooted
+
   line-further : [] ≡ kept_of (rest_of (bytes ++ (chunk ++ line_feed ∷ [])))
   line-further = sym kept_of-none ∙ ap kept_of (sym (rest_of-ended bytes chunk free))
 
@@ -159,6 +165,7 @@ module _ (v : StoreView) (durable : State) (bytes chunk kept : List ℕ) (wrote0
         none = λ is. refl;
         some = λ is. absurd (false≢true is);
         goes = goes-further false a;
+        rooted = rooted-further false a;
       }
 
   -- a write was taken, and the reply waits
@@ -179,6 +186,7 @@ module _ (v : StoreView) (durable : State) (bytes chunk kept : List ℕ) (wrote0
         none = λ no. absurd (false≢true (sym no));
         some = λ yes. some-more went.hidden a.reply;
         goes = goes-further true a;
+        rooted = rooted-further true a;
       }
 
   either : (wrote before : Bool) → before ≡ wrote0 → (a : Line wrote) → wrote ≡ (before || is_ok a.reply) → extents_of w ≡ extents_of v → Further wrote
@@ -224,13 +232,14 @@ module _ (v : StoreView) (durable : State) (bytes kept : List ℕ) (wrote : Bool
     unwritten = went.unwritten;
     first = went.first;
     since = subst (λ xs. Leaves (λ left. IsPrefix left durable xs 0) old new) all_are (breaks-behind v w went.writes durable old mid went.goes new lost.survives);
+    rooted = rooted-joins old mid new lost.rooted went.rooted;
     lost = lost.lost;
     rests = λ short. let r = lost.rests short in (went.goes.sure + r.0, rests-first r.0 new r.1);
   }
 
   -- all writes are durable
-  pub committed-after : (x : StoreView) (new : told.State) → Goes w [] x (after_writes durable (take went.goes.sure (v.log.pending ++ went.writes))) mid new → x.log.pending ≡ [] → Committed (extents_of v) durable bytes kept waiting0 waiting x old new
-  committed-after x new commit none =
+  pub committed-after : (x : StoreView) (new : told.State) → Goes w [] x (after_writes durable (take went.goes.sure (v.log.pending ++ went.writes))) mid new → Leaves IsRooted mid new → x.log.pending ≡ [] → Committed (extents_of v) durable bytes kept waiting0 waiting x old new
+  committed-after x new commit rooted none =
       let g = goes-behind v w went.writes durable old mid went.goes x [] new commit in
       let given : List Item = v.log.pending ++ (went.writes ++ []) in
       let given_are : given ≡ went.writes = ap (λ xs. v.log.pending ++ xs) (append-nil went.writes) ∙ all_are in
@@ -247,11 +256,12 @@ module _ (v : StoreView) (durable : State) (bytes kept : List ℕ) (wrote : Bool
         room = omega (arith, went.room);
         opened = subst (λ xs. IsOpen x (after_writes durable xs) new) whole g.opened;
         since = subst (λ xs. Leaves (λ left. IsPrefix left durable xs 0) old new) given_are g.survives;
+        rooted = rooted-joins old mid new rooted went.rooted;
       }
 
 -- a commit that failed
-pub lost-commit : (w : StoreView) (durable : State) (old new : told.State) → Survives w [] durable old new → Lost w durable faults.Device old new
-lost-commit w durable old new survives = record { lost = tt; survives = survives; rests = λ is. absurd (cc) }
+pub lost-commit : (w : StoreView) (durable : State) (old new : told.State) → Survives w [] durable old new → Leaves IsRooted old new → Lost w durable faults.Device old new
+lost-commit w durable old new survives rooted = record { lost = tt; survives = survives; rooted = rooted; rests = λ is. absurd (cc) }
 
 -- the replies are settled
 pub round-settled : (e : ℕ) (durable : State) (bytes kept : List ℕ) (waiting0 waiting waiting' : Waiting) (w : StoreView) (old new : told.State) → Committed e durable bytes kept (all_settled waiting0) waiting w old new → waiting' ≡ all_settled waiting
@@ -265,6 +275,7 @@ round-settled e durable bytes kept waiting0 waiting waiting' w old new c is = re
   told = is ∙ ap (λ t. record { settled_text = t; pending_text = []; room = waiting.room }) c.told ∙ ap (λ n. record { settled_text = all_text waiting0 ++ texts c.replies; pending_text = []; room = n }) c.room;
   opened = c.opened;
   since = c.since;
+  rooted = c.rooted;
 }
 
 -- ---- a line
@@ -277,6 +288,7 @@ answered-line v w durable command wrote0 wrote taken waiting0 waiting waiting' o
   writes = a.writes;
   runs = a.runs;
   goes = a.goes;
+  rooted = a.rooted;
   wrote_is = is ∙ ap (λ b. wrote0 || b) a.taken_is;
   fits = a.fits;
   told = settled ∙ ap (settled_unless wrote) a.told;

@@ -21,6 +21,7 @@ use Rattle.lt_line.proofs.HeldLaws.{kept_of-none, kept_of-nothing}
 use Rattle.lt_layout.specs.declared.fault.OpenFault.{OpenFault}
 use Rattle.lt_layout.specs.declared.fault.OpenFault.TheVariants as opens
 use Rattle.lt_store.specs.Open.{StoreView, IsOpen, Rests}
+use Rattle.lt_store.proofs.RootedLaws.{rests-rooted, rooted-none}
 use Rattle.lt_serve.specs.declared.served.Served.{Served}
 use Rattle.lt_serve.specs.declared.served.Served.TheVariants as served
 use Rattle.lt_serve.specs.Ends.{with_end}
@@ -157,6 +158,7 @@ reached-none e before kept w s none opened = record {
   line = none ∙ sym kept_of-none;
   opened = subst (λ (t : State). IsOpen w t s) (sym (no_writes before)) opened;
   since = begins s (λ left may. prefix-none left before [] (opened.rest.each left may));
+  rooted = rooted-none w before s opened;
 }
 
 -- a run that took nothing yet
@@ -236,6 +238,7 @@ over-unopened e before status faults0 faults s r =
       far = λ front behind is long. absurd (omega (arith, ap length is, length-append front behind));
       whole = λ inner still. (0, refl);
       since = begins s (λ left may. prefix-none left before [] (r.rest.each left may));
+      rooted = begins s (rests-rooted before s r);
       at_exit = λ left may. prefix-none left before [] (r.rest.each left may);
       rests = λ short. (0, rests);
       rests_all = λ settled. rests;

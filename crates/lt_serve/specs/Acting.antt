@@ -1,6 +1,7 @@
 -- What a command makes of the store, of the device and of the replies that wait.
 use Rattle.std.specs.Prelude.{◌≡◌, ℕ, ◌≤◌, Bool, true, false, ◌||◌, List, [], ◌∷◌, take, length}
 use Rattle.lt_terms.specs.Items.{Item}
+use Rattle.lt_device.specs.Moments.{Leaves}
 use Rattle.lt_device.specs.State as told
 use Rattle.lt_image.specs.Standing.{after_writes}
 use Rattle.lt_language.specs.Commands.{Command}
@@ -11,7 +12,7 @@ use Rattle.lt_serve.specs.declared.faults.RoundFault.{RoundFault}
 use Rattle.lt_serve.specs.declared.faults.RoundFault.TheVariants as faults
 use Rattle.lt_serve.specs.Faults.{IsLost}
 use Rattle.lt_store.specs.Going.{Goes, Survives}
-use Rattle.lt_store.specs.Open.{StoreView, Rests, extents_of, state_of}
+use Rattle.lt_store.specs.Open.{StoreView, IsRooted, Rests, extents_of, state_of}
 use Rattle.lt_serve.specs.Runs.{Runs, is_ok}
 
 -- The command was answered by the map machine, and its reply waits; `taken` where it is a write that was taken.
@@ -20,6 +21,8 @@ pub record Answers (v : StoreView) (durable : State) (command : Command) (taken 
   pub writes : List Item
   pub runs : Runs (extents_of v) (state_of v durable) (command ∷ []) (reply ∷ []) writes
   pub goes : Goes v writes w durable old new
+  -- each image since names the root alone
+  pub rooted : Leaves IsRooted old new
   pub taken_is : taken ≡ is_ok reply
   pub fits : length (text reply) ≤ waiting0.room
   pub told : waiting ≡ with_text waiting0 (text reply)
@@ -28,6 +31,8 @@ pub record Answers (v : StoreView) (durable : State) (command : Command) (taken 
 pub record Lost (v : StoreView) (durable : State) (fault : RoundFault) (old new : told.State) : Type 0 where
   pub lost : IsLost fault
   pub survives : Survives v [] durable old new
+  -- each image since names the root alone
+  pub rooted : Leaves IsRooted old new
   pub rests : fault ≡ faults.NoMemory → (sure : ℕ) × Rests (after_writes durable (take sure v.log.pending)) new
 
 -- all of it is settled as long as no write was taken
@@ -41,6 +46,8 @@ pub record Answered (v : StoreView) (durable : State) (command : Command) (wrote
   pub writes : List Item
   pub runs : Runs (extents_of v) (state_of v durable) (command ∷ []) (reply ∷ []) writes
   pub goes : Goes v writes w durable old new
+  -- each image since names the root alone
+  pub rooted : Leaves IsRooted old new
   pub wrote_is : wrote ≡ (wrote0 || is_ok reply)
   pub fits : length (text reply) ≤ waiting0.room
   pub told : waiting ≡ settled_unless wrote (with_text waiting0 (text reply))

@@ -12,7 +12,7 @@ use Rattle.lt_language.specs.Replies.{Reply, texts}
 use Rattle.lt_line.specs.Held.{kept_of}
 use Rattle.lt_line.specs.Waiting.{Waiting}
 use Rattle.lt_store.specs.Going.{Goes}
-use Rattle.lt_store.specs.Open.{StoreView, IsOpen, Rests, extents_of, state_of}
+use Rattle.lt_store.specs.Open.{StoreView, IsOpen, IsRooted, Rests, extents_of, state_of}
 use Rattle.lt_serve.specs.declared.faults.RoundFault.{RoundFault}
 use Rattle.lt_serve.specs.declared.faults.RoundFault.TheVariants as faults
 use Rattle.lt_serve.specs.Faults.{IsLost}
@@ -43,6 +43,8 @@ pub record Went (v : StoreView) (durable : State) (bytes kept : List ℕ) (wrote
   pub none : wrote ≡ false → hidden ≡ []
   pub some : wrote ≡ true → hidden ≢ []
   pub goes : Goes v writes w durable old new
+  -- each image since names the root alone
+  pub rooted : Leaves IsRooted old new
 
 -- A round that took the bytes: all their lines were answered, the replies are settled, and all writes are durable.
 pub record Round (e : ℕ) (durable : State) (bytes kept : List ℕ) (waiting0 waiting : Waiting) (w : StoreView) (old new : told.State) : Type 0 where
@@ -54,6 +56,8 @@ pub record Round (e : ℕ) (durable : State) (bytes kept : List ℕ) (waiting0 w
   pub told : waiting ≡ record { settled_text = all_text waiting0 ++ texts replies; pending_text = []; room = waiting0.room - length (texts replies) }
   pub opened : IsOpen w (after_writes durable writes) new
   pub since : Leaves (λ left. IsPrefix left durable writes 0) old new
+  -- each image since names the root alone
+  pub rooted : Leaves IsRooted old new
 
 -- The same before its replies are settled; those before its first write that was taken are.
 pub record Committed (e : ℕ) (durable : State) (bytes kept : List ℕ) (waiting0 waiting : Waiting) (w : StoreView) (old new : told.State) : Type 0 where
@@ -66,6 +70,8 @@ pub record Committed (e : ℕ) (durable : State) (bytes kept : List ℕ) (waitin
   pub room : waiting.room ≡ waiting0.room - length (texts replies)
   pub opened : IsOpen w (after_writes durable writes) new
   pub since : Leaves (λ left. IsPrefix left durable writes 0) old new
+  -- each image since names the root alone
+  pub rooted : Leaves IsRooted old new
 
 -- A round that failed within the bytes: the replies before its first write that was taken are settled, and no other.
 pub record Stopped (e : ℕ) (durable : State) (bytes : List ℕ) (fault : RoundFault) (settled0 settled : List ℕ) (old new : told.State) : Type 0 where
@@ -81,6 +87,8 @@ pub record Stopped (e : ℕ) (durable : State) (bytes : List ℕ) (fault : Round
   pub first : StartWithOk hidden
   -- each image since holds first writes of these, behind all that was durable
   pub since : Leaves (λ left. IsPrefix left durable writes 0) old new
+  -- each image since names the root alone
+  pub rooted : Leaves IsRooted old new
   -- no block is damaged; and where memory was short the device is at rest
   pub lost : IsLost fault
   pub rests : fault ≡ faults.NoMemory → (sure : ℕ) × Rests (after_writes durable (take sure writes)) new

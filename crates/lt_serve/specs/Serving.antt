@@ -13,7 +13,7 @@ use Rattle.lt_language.specs.Lines.{lines_of, rest_of}
 use Rattle.lt_language.specs.Machine.{State}
 use Rattle.lt_language.specs.Replies.{Reply, texts}
 use Rattle.lt_line.specs.Held.{kept_of}
-use Rattle.lt_store.specs.Open.{StoreView, IsOpen, Rests}
+use Rattle.lt_store.specs.Open.{StoreView, IsOpen, IsRooted, Rests}
 use Rattle.lt_serve.specs.declared.served.Served.{Served}
 use Rattle.lt_serve.specs.declared.served.Served.TheVariants as served
 use Rattle.lt_serve.specs.Faults.{IsPause, IsHalt, IsInnerHalt, IsSettled}
@@ -28,6 +28,8 @@ pub record Reached (e : ℕ) (before : State) (input output kept : List ℕ) (w 
   pub line : kept ≡ kept_of (rest_of input)
   pub opened : IsOpen w (after_writes before writes) new
   pub since : Leaves (λ left. IsPrefix left before writes 0) old new
+  -- each image since names the root alone
+  pub rooted : Leaves IsRooted old new
 
 -- Serving stopped within the bytes: the sink took a front of the text of the replies `shown`, all of it where its count did not rise and it is not the cause.
 pub record PieceStopped (e : ℕ) (durable : State) (bytes : List ℕ) (status : Served) (stands0 stands : List ℕ → Type 0) (faults0 faults : ℕ) (old new : told.State) : Type 0 where
@@ -45,6 +47,8 @@ pub record PieceStopped (e : ℕ) (durable : State) (bytes : List ℕ) (status :
   pub halt : IsHalt status
   pub whole : IsInnerHalt status → (Rose faults0 faults → ⊥) → behind ≡ []
   pub since : Leaves (λ left. IsPrefix left durable writes 0) old new
+  -- each image since names the root alone
+  pub rooted : Leaves IsRooted old new
   pub at_exit : (left : Image) → MayLeave new left → IsPrefix left durable writes (ok_count shown)
   pub rests : status ≡ served.NoMemory → (sure : ℕ) × Rests (after_writes durable (take sure writes)) new
   pub rests_all : IsSettled status → Rests (after_writes durable writes) new
@@ -77,6 +81,8 @@ pub record Over (e : ℕ) (before : State) (status : Served) (input output : Lis
   pub whole : IsInnerHalt status → (Rose faults0 faults → ⊥) → (count : ℕ) × (output ≡ texts (take count replies))
   -- each image since the start has first writes of those that were taken, and none in part
   pub since : Leaves (λ left. IsPrefix left before writes 0) old new
+  -- and its manifest names no node but the root
+  pub rooted : Leaves IsRooted old new
   -- each image that a crash may leave at exit has every write whose `OK` and line feed the output has
   pub at_exit : (left : Image) → MayLeave new left → IsPrefix left before writes (acknowledged replies (length output))
   -- but for a fault of the device it is at rest: with all writes, or where memory was short with the first of them

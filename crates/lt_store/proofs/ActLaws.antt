@@ -2,6 +2,7 @@
 use Rattle.std.proofs.Common.{◌≡◌, ℕ, ◌+◌, ◌*◌, ◌<◌, ◌≤◌, refl, sym, ap, subst, ◌∙◌, List, [], Bool, true, false, Some, Result, Ok, Err, true≢false}
 use Rattle.std.specs.Prelude.{◌↔◌, ◌≢◌, IsErrOf, OnErr}
 use Rattle.lt_device.specs.State as told
+use Rattle.lt_device.specs.Moments.{Leaves}
 use Rattle.lt_language.specs.Commands as commands
 use Rattle.lt_language.specs.Machine.{State, most_writes, put_of, delete_of}
 use Rattle.lt_image.specs.Standing.{after_writes}
@@ -14,15 +15,19 @@ use Rattle.lt_store.specs.declared.writing.Taken.{Taken}
 use Rattle.lt_store.specs.declared.writing.Taken.TheVariants as taken
 use Rattle.lt_store.specs.Acting.{IsStep, reply_of}
 use Rattle.lt_store.specs.Going.{Goes}
-use Rattle.lt_store.specs.Open.{StoreView, IsOpen}
+use Rattle.lt_store.specs.Open.{StoreView, IsOpen, IsRooted}
 use Rattle.lt_store.specs.Taking.{accepted_by}
 use Rattle.lt_store.proofs.GoLaws.{goes-none}
+use Rattle.lt_store.proofs.RootedLaws.{rooted-none}
 use Rattle.lt_store.proofs.GroupLaws.{after_none}
 
 -- ---- calls that ask
 
 pub asks-goes : (v w : StoreView) (d : State) (s t : told.State) → w ≡ v → t ≡ s → IsOpen v d s → Goes v [] w d s t
 asks-goes v w d s t same kept o = subst (λ x. Goes v [] x d s t) (sym same) (subst (λ e. Goes v [] v d s e) (sym kept) (goes-none v d s o))
+
+pub asks-rooted : (v : StoreView) (d : State) (s t : told.State) → t ≡ s → IsOpen v d s → Leaves IsRooted s t
+asks-rooted v d s t kept o = subst (λ e. Leaves IsRooted s e) (sym kept) (rooted-none v d s o)
 
 pub stat-step : (e : ℕ) (s : State) (stat : Stat) (page : List ℕ) → stat.writes ≡ s.writes → stat.tables + stat.free ≤ e → IsStep e s (Some commands.stat) (reply_of (outcomes.Stat stat) page) (after_writes s [])
 stat-step e s stat page number within = ((number, within), after_none s)

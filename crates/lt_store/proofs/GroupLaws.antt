@@ -57,7 +57,7 @@ behind-slot g area slot image left small within same x c = same.others (extent_b
     next (suc zero) small at = absurd (omega arith)
     next (suc (suc a)) small at = absurd (omega arith)
 
-low-slot : (g : Geometry) (area slot : ℕ) (image left : Image) → SameOutside (InSlot g area slot) image left → (n : ℕ) → n < 868 → block_at left n ≡ block_at image n
+pub low-slot : (g : Geometry) (area slot : ℕ) (image left : Image) → SameOutside (InSlot g area slot) image left → (n : ℕ) → n < 868 → block_at left n ≡ block_at image n
 low-slot g area slot image left same n small = same.others n (λ inside. ⊎_elim (λ gate. absurd (omega arith)) (λ content. absurd (omega arith)) inside)
 
 module _ (v : StoreView) (d : State) (old : told.State) (o : IsOpen v d old) (fits : Fits v) (within : v.log.slots < v.named.geometry.slots) where

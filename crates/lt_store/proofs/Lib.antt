@@ -21,5 +21,6 @@ pub mod PartLaws
 pub mod PileLaws
 pub mod PrepareLaws
 pub mod ReserveLaws
+pub mod RootedLaws
 pub mod SameLaws
 pub mod TakeLaws

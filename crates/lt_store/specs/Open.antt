@@ -32,6 +32,12 @@ pub record AtRest (s : State) (device : told.State) : Type 0 where
 pub record IsRootOnly (trie : Trie) : Type 0 where
   pub only : IsTrue (has_only_root trie)
 
+-- no node but the root of the image's manifest has tables
+pub record IsRooted (image : Image) : Type 0 where
+  pub named : Named
+  pub names : Names named image
+  pub root_only : IsRootOnly named.manifest.trie
+
 -- at rest, and no node but the root has tables
 pub record Rests (s : State) (device : told.State) : Type 0 where
   pub rest : AtRest s device

@@ -6,7 +6,7 @@ ghost use Rattle.lt_terms.specs.Causes.{Rose};
 ghost use Rattle.lt_terms.specs.Items as terms;
 ghost use Rattle.lt_terms.specs.Items.{item_cost, total_cost};
 ghost use Rattle.lt_alloc.specs.Extents.{free_count};
-ghost use Rattle.lt_device.specs.Moments.{MayLeave};
+ghost use Rattle.lt_device.specs.Moments.{Leaves, MayLeave};
 ghost use Rattle.lt_device.specs.Reads.{CountsAtMost};
 ghost use Rattle.lt_format.specs.Log.{group_room};
 ghost use Rattle.lt_format.specs.Trie.{table_total};
@@ -17,7 +17,7 @@ ghost use Rattle.lt_store.specs.Committing.{committed};
 ghost use Rattle.lt_store.specs.Damage.{StopsGet};
 ghost use Rattle.lt_store.specs.Getting.{IsBucketOf};
 ghost use Rattle.lt_store.specs.Going.{Goes, Survives};
-ghost use Rattle.lt_store.specs.Open.{IsOpen, blocks_of, extents_of, root_pile, state_of};
+ghost use Rattle.lt_store.specs.Open.{IsOpen, IsRooted, blocks_of, extents_of, root_pile, state_of};
 ghost use Rattle.lt_store.specs.Taking.{is_due, IsFull, IsFullImage};
 ghost use Rattle.lt_store.specs.View.{view_of};
 
@@ -78,6 +78,7 @@ impl Store {
         ensures broken { OnErr result ((durable : State) → IsOpen (view_of self.old) durable (D.state device.old)
             → Survives (view_of self.old) [] durable (D.state device.old) (D.state device.new)) }
 
+        ensures rooted { (durable : State) → IsOpen (view_of self.old) durable (D.state device.old) → Leaves IsRooted (D.state device.old) (D.state device.new) }
         ensures committed { command_of event.entry ≡ None → OnOk result (view_of self.new ≡ committed (view_of self.old)) }
         ensures asked { IsTrue (only_asks event.entry) → (view_of self.new ≡ view_of self.old) × (D.state device.new ≡ D.state device.old) }
         ensures limit { (result ≡ Ok (Outcome.Taken Taken.Limit)) ↔ (IsSome (write_of event.entry) × ((view_of self.old).writes ≡ most_writes)) }

@@ -2,8 +2,9 @@
 
 ghost use Rattle.std.specs.Prelude.{◌≡◌, ◌≤◌, ◌<◌, true, false, [], OnOk, OnErr, IsOk, length};
 ghost use Rattle.lt_terms.specs.Causes.{HasCause};
+ghost use Rattle.lt_device.specs.Moments.{Leaves};
 ghost use Rattle.lt_language.specs.Machine.{State};
-ghost use Rattle.lt_store.specs.Open.{IsOpen, blocks_of};
+ghost use Rattle.lt_store.specs.Open.{IsOpen, IsRooted, blocks_of};
 ghost use Rattle.lt_store.specs.Going.{Goes, Survives};
 ghost use Rattle.lt_store.specs.View.{view_of};
 ghost use Rattle.lt_store.specs.Committing.{committed};
@@ -27,6 +28,7 @@ impl Store {
         ensures opened { OnOk result ((durable : State) → IsOpen (view_of self.old) durable (D.state device.old) → Goes (view_of self.old) [] (view_of self.new) durable (D.state device.old) (D.state device.new)) }
         ensures broken { OnErr result ((durable : State) → IsOpen (view_of self.old) durable (D.state device.old) → Survives (view_of self.old) [] durable (D.state device.old) (D.state device.new)) }
 
+        ensures rooted { (durable : State) → IsOpen (view_of self.old) durable (D.state device.old) → Leaves IsRooted (D.state device.old) (D.state device.new) }
         ensures size { D.blocks device.new ≡ D.blocks device.old }
         ensures count { D.reads device.new ≡ D.reads device.old }
         ensures cause { HasCause (D.faults device.old) (D.faults device.new) result }

@@ -3,6 +3,7 @@
 ghost use Rattle.std.specs.Prelude.{◌≡◌, ℕ, ◌+◌, ◌<◌, ◌≤◌, true, false, Bool, List, [], Ok, Some, None, All, IfOk, IfSome, IsErrOf, IsOk, IsTrue, ◌||◌, ◌↔◌, OnOk, length, map};
 ghost use Rattle.lt_terms.specs.Bytes.{Image};
 ghost use Rattle.lt_terms.specs.Causes.{Rose};
+ghost use Rattle.lt_device.specs.Moments.{Leaves};
 ghost use Rattle.lt_language.specs.Machine.{State};
 ghost use Rattle.lt_tables.specs.Cut.{cut, table_total};
 ghost use Rattle.lt_tables.specs.Merge.{newest};
@@ -17,7 +18,7 @@ ghost use Rattle.lt_alloc.specs.declared.extents.Short.{Short};
 ghost use Rattle.lt_alloc.specs.Extents.{is_free};
 ghost use Rattle.lt_tables.specs.Filter.{is_in};
 ghost use Rattle.lt_store.specs.Kept.{IsKept};
-ghost use Rattle.lt_store.specs.Open.{IsOpen, blocks_of, extents_of};
+ghost use Rattle.lt_store.specs.Open.{IsOpen, IsRooted, blocks_of, extents_of};
 ghost use Rattle.lt_store.specs.View.{view_of};
 
 use crate::building::build_tables;
@@ -46,6 +47,7 @@ impl Store {
 
         // Each image since stands for what was durable; and the store is open for that.
         ensures stays { (durable : State) → IsOpen (view_of self.old) durable (D.state device.old) → Stays durable (D.state device.old) (D.state device.new) }
+        ensures rooted { (durable : State) → IsOpen (view_of self.old) durable (D.state device.old) → Leaves IsRooted (D.state device.old) (D.state device.new) }
         ensures opened { IsOk result → (durable : State) → IsOpen (view_of self.old) durable (D.state device.old) → IsOpen (view_of self.new) durable (D.state device.new) }
         ensures opened_again { IsErrOf result WriteFault.NoMemory → (durable : State) → IsOpen (view_of self.old) durable (D.state device.old) → IsOpen (view_of self.new) durable (D.state device.new) }
 
@@ -107,6 +109,7 @@ impl Store {
 
         // Each image since stands for what was durable; and the store is open as it is then.
         ensures stays { (durable : State) → IsOpen (view_of self.old) durable (D.state device.old) → Stays durable (D.state device.old) (D.state device.new) }
+        ensures rooted { (durable : State) → IsOpen (view_of self.old) durable (D.state device.old) → Leaves IsRooted (D.state device.old) (D.state device.new) }
         ensures opened { OnOk result ((durable : State) → IsOpen (view_of self.old) durable (D.state device.old) → IsOpen (view_of self.new) durable (D.state device.new)) }
         ensures opened_again { IsErrOf result WriteFault.NoMemory → (durable : State) → IsOpen (view_of self.old) durable (D.state device.old) → IsOpen (view_of self.new) durable (D.state device.new) }
 
@@ -158,6 +161,7 @@ impl Store {
         requires within { blocks_of (view_of self.old) ≤ D.blocks device.old }
 
         ensures stays { (durable : State) (o : IsOpen (view_of self.old) durable (D.state device.old)) → IsPrepared (view_of self.old) numbers.now o.rest.image → Stays durable (D.state device.old) (D.state device.new) }
+        ensures rooted { (durable : State) → IsOpen (view_of self.old) durable (D.state device.old) → Leaves IsRooted (D.state device.old) (D.state device.new) }
         ensures opened { OnOk result ((durable : State) (o : IsOpen (view_of self.old) durable (D.state device.old)) → IsPrepared (view_of self.old) numbers.now o.rest.image → IsOpen (view_of self.new) durable (D.state device.new)) }
         ensures manifest { OnOk result ((view_of self.new).named.manifest ≡ after_commit (view_of self.old).named.manifest (flush numbers.now) (flush_header (view_of self.old))) }
         ensures stands { OnOk result (opened.IsKept (view_of self.new).named) }

@@ -1,14 +1,16 @@
 //! How the calls of an open store follow one another.
 
-ghost use Rattle.std.specs.Prelude.{◌≡◌, ◌++◌, ℕ, List, [], take};
+ghost use Rattle.std.specs.Prelude.{◌≡◌, ◌++◌, ℕ, List, [], Some, take};
+ghost use Rattle.lt_terms.specs.Bytes.{Image};
 ghost use Rattle.lt_terms.specs.Items.{Item};
+ghost use Rattle.lt_device.specs.Moments.{MayLeave, UnsyncedIn};
 ghost use Rattle.lt_device.specs.State as told;
 ghost use Rattle.lt_language.specs.Machine.{State, nothing_yet};
 ghost use Rattle.lt_format.specs.declared.geometry.Geometry.{Geometry};
-ghost use Rattle.lt_image.specs.Standing.{after_writes};
+ghost use Rattle.lt_image.specs.Standing.{Stands, after_writes};
 ghost use Rattle.lt_store.specs.Going.{Goes, Survives};
 ghost use Rattle.lt_store.specs.Making.{IsFresh};
-ghost use Rattle.lt_store.specs.Open.{IsOpen, Rests, StoreView, state_of};
+ghost use Rattle.lt_store.specs.Open.{IsOpen, IsRooted, Rests, StoreView, state_of};
 
 /// Nothing happened; and a call that went on, or failed, behind those that went on.
 pub fn goes_compose()
@@ -21,8 +23,10 @@ pub fn goes_compose()
         → state_of w (after_writes d (take g.sure (v.log.pending ++ a))) ≡ after_writes (state_of v d) a }
 {}
 
-/// A device with an open store on it is at rest, and so is one with a fresh store.
+/// A device with an open store on it is at rest, and so is one with a fresh store, and one that a crash left.
 pub fn open_rests()
     ensures opened { (v : StoreView) (d : State) (s : told.State) → IsOpen v d s → Rests d s }
+    ensures rooted { (v : StoreView) (d : State) (s : told.State) → IsOpen v d s → (left : Image) → MayLeave s left → IsRooted left }
+    ensures crashed { (d : State) (s : told.State) (image : Image) → s.shown ≡ Some image → MayLeave s image → UnsyncedIn (λ _. ⊥) s → Stands image d → IsRooted image → Rests d s }
     ensures fresh { (g : Geometry) (extents : ℕ) (s : told.State) → IsFresh g extents s → Rests nothing_yet s }
 {}

@@ -178,33 +178,18 @@ fn flush_twice<D: Device>(alloc: Global, device: &mut D) -> Option<([Outcome; 9]
         key: b"b",
         value: b"3",
     };
+    let get_a = EventView::Get { key: b"a" };
+    let get_b = EventView::Get { key: b"b" };
+    let delete_b = EventView::Delete { key: b"b" };
     let outcomes = [
         act(alloc, &mut store, device, put_a, &mut out)?,
         act(alloc, &mut store, device, EventView::Commit, &mut out)?,
         act(alloc, &mut store, device, put_a_again, &mut out)?,
         act(alloc, &mut store, device, EventView::Commit, &mut out)?,
         act(alloc, &mut store, device, put_b, &mut out)?,
-        act(
-            alloc,
-            &mut store,
-            device,
-            EventView::Get { key: b"a" },
-            &mut out,
-        )?,
-        act(
-            alloc,
-            &mut store,
-            device,
-            EventView::Delete { key: b"b" },
-            &mut out,
-        )?,
-        act(
-            alloc,
-            &mut store,
-            device,
-            EventView::Get { key: b"b" },
-            &mut out,
-        )?,
+        act(alloc, &mut store, device, get_a, &mut out)?,
+        act(alloc, &mut store, device, delete_b, &mut out)?,
+        act(alloc, &mut store, device, get_b, &mut out)?,
         act(alloc, &mut store, device, EventView::Stat, &mut out)?,
     ];
     Some((outcomes, out.byte(0)))

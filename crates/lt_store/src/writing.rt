@@ -5,13 +5,13 @@ ghost use Rattle.lt_terms.specs.Bytes.{Image};
 ghost use Rattle.lt_terms.specs.Causes.{HasCause, Rose};
 ghost use Rattle.lt_terms.specs.Items.{is_key, is_valid, item_cost, total_cost};
 ghost use Rattle.lt_alloc.specs.declared.extents.Short.{Short};
-ghost use Rattle.lt_device.specs.Moments.{MayLeave};
+ghost use Rattle.lt_device.specs.Moments.{Leaves, MayLeave};
 ghost use Rattle.lt_item.specs.Views.{item_of};
 ghost use Rattle.lt_language.specs.Machine.{State, delete_of, most_writes, put_of};
 ghost use Rattle.lt_format.specs.Log.{group_room};
 ghost use Rattle.lt_store.specs.Flushing.{Stays};
 ghost use Rattle.lt_store.specs.Going.{Goes, Survives, appended};
-ghost use Rattle.lt_store.specs.Open.{IsOpen, blocks_of, extents_of};
+ghost use Rattle.lt_store.specs.Open.{IsOpen, IsRooted, blocks_of, extents_of};
 ghost use Rattle.lt_store.specs.Taking.{accepted_by, is_due, IsFull, IsFullImage};
 ghost use Rattle.lt_store.specs.View.{view_of};
 
@@ -61,6 +61,7 @@ impl Store {
             → Goes (view_of self.old) [] (view_of self.new) durable (D.state device.old) (D.state device.new) }
         ensures broken { IsErrOf result WriteFault.Device → (durable : State) → IsOpen (view_of self.old) durable (D.state device.old)
             → Survives (view_of self.old) [] durable (D.state device.old) (D.state device.new) }
+        ensures rooted { (durable : State) → IsOpen (view_of self.old) durable (D.state device.old) → Leaves IsRooted (D.state device.old) (D.state device.new) }
         ensures limit { (result ≡ Ok Taken.Limit) ↔ ((view_of self.old).writes ≡ most_writes) }
         ensures full { (needed free : ℕ) → result ≡ Ok (Taken.Full needed free) → IsFull (view_of self.new) needed free }
         ensures full_images { (needed free : ℕ) → result ≡ Ok (Taken.Full needed free) → (durable : State) → IsOpen (view_of self.old) durable (D.state device.old)
@@ -102,6 +103,7 @@ impl Store {
             → Goes (view_of self.old) [] (view_of self.new) durable (D.state device.old) (D.state device.new) }
         ensures broken { IsErrOf result WriteFault.Device → (durable : State) → IsOpen (view_of self.old) durable (D.state device.old)
             → Survives (view_of self.old) [] durable (D.state device.old) (D.state device.new) }
+        ensures rooted { (durable : State) → IsOpen (view_of self.old) durable (D.state device.old) → Leaves IsRooted (D.state device.old) (D.state device.new) }
         ensures limit { (result ≡ Ok Taken.Limit) ↔ ((view_of self.old).writes ≡ most_writes) }
         ensures full { (needed free : ℕ) → result ≡ Ok (Taken.Full needed free) → IsFull (view_of self.new) needed free }
         ensures full_images { (needed free : ℕ) → result ≡ Ok (Taken.Full needed free) → (durable : State) → IsOpen (view_of self.old) durable (D.state device.old)
@@ -142,6 +144,7 @@ impl Store {
             → Goes (view_of self.old) [] (view_of self.new) durable (D.state device.old) (D.state device.new) }
         ensures broken { IsErrOf result WriteFault.Device → (durable : State) → IsOpen (view_of self.old) durable (D.state device.old)
             → Survives (view_of self.old) [] durable (D.state device.old) (D.state device.new) }
+        ensures rooted { (durable : State) → IsOpen (view_of self.old) durable (D.state device.old) → Leaves IsRooted (D.state device.old) (D.state device.new) }
         ensures limit { (result ≡ Ok Taken.Limit) ↔ ((view_of self.old).writes ≡ most_writes) }
         ensures full { (needed free : ℕ) → result ≡ Ok (Taken.Full needed free) → IsFull (view_of self.new) needed free }
         ensures full_images { (needed free : ℕ) → result ≡ Ok (Taken.Full needed free) → (durable : State) → IsOpen (view_of self.old) durable (D.state device.old)
@@ -185,6 +188,7 @@ impl Store {
             → Goes (view_of self.old) [] (view_of self.new) durable (D.state device.old) (D.state device.new)) }
         ensures broken { OnErr result ((durable : State) → IsOpen (view_of self.old) durable (D.state device.old)
             → Survives (view_of self.old) [] durable (D.state device.old) (D.state device.new)) }
+        ensures rooted { (durable : State) → IsOpen (view_of self.old) durable (D.state device.old) → Leaves IsRooted (D.state device.old) (D.state device.new) }
         ensures at_once { total_cost (view_of self.old).memory ≤ 200000 → total_cost self.old.log.pending + cost ≤ group_room
             → IsOk result × (view_of self.new ≡ view_of self.old) × (device.new ≡ device.old) }
         ensures up { OnOk result (self.new.is_up ≡ true) }
@@ -209,6 +213,7 @@ impl Store {
         requires within { blocks_of (view_of self.old) ≤ D.blocks device.old }
         requires small { 0 < length self.old.log.pending → total_cost (view_of self.old).memory ≤ 200000 }
         ensures stays { (durable : State) → IsOpen (view_of self.old) durable (D.state device.old) → Stays durable (D.state device.old) (D.state device.new) }
+        ensures rooted { (durable : State) → IsOpen (view_of self.old) durable (D.state device.old) → Leaves IsRooted (D.state device.old) (D.state device.new) }
         ensures opened { IsOk result → (durable : State) → IsOpen (view_of self.old) durable (D.state device.old) → IsOpen (view_of self.new) durable (D.state device.new) }
         ensures opened_again { IsErrOf result WriteFault.NoMemory → (durable : State) → IsOpen (view_of self.old) durable (D.state device.old) → IsOpen (view_of self.new) durable (D.state device.new) }
         ensures not_due { is_due (view_of self.old) ≡ false → (result ≡ Ok None) × (view_of self.new ≡ view_of self.old) × (device.new ≡ device.old) }

@@ -18,7 +18,7 @@ returns-in_err-outcome-clause-err g c =
     subst (λ r. IfErr r (λ f. (durable : State) → IsOpen (view_of c.args.store.now) durable device → Lost (view_of c.args.store.now) durable (round_fault_of f) device after)) (sym fault.1)
     (λ durable opened. subst (λ f. Lost (view_of c.args.store.now) durable (round_fault_of f) device after) (sym fault.2)
     (lost-event (view_of c.args.store.now) (view_of c.act.new.self) durable c.in_err-outcome.field-0.0 c.act.new.self.is_up device after
-    (c.in_err-outcome.ensures.broken durable opened) (λ up. c.in_err-outcome.ensures.goes_on up durable opened)
+    (c.in_err-outcome.ensures.broken durable opened) (c.act.ensures.rooted durable opened) (λ up. c.in_err-outcome.ensures.goes_on up durable opened)
     (λ down. search rules) (λ b is. c.act.ensures.sound b durable opened (search rules))))
 
 pub returns-in_err-outcome-clause-damaged : goal.returns-in_err-outcome-clause-damaged
@@ -35,4 +35,4 @@ returns-clause-ok g c = λ command durable is opened.
     let out = c.in_ok-outcome in
     subst (λ taken. Answers (view_of c.args.store.now) durable command taken c.args.out.now c.add_outcome.new.out (view_of c.act.new.self) (g.D.Device.state c.args.device.now) (g.D.Device.state c.act.new.device)) (sym c.is_taken.ensures)
     (answers-event (view_of c.args.store.now) (view_of c.act.new.self) durable c.args.event command out.outcome c.act.new.out c.found.result.now c.args.out.now c.add_outcome.new.out _ _ is
-    (out.ensures.step durable opened) (out.ensures.goes durable opened) c.found.ensures.front c.found.ensures.value c.add_outcome.ensures.short c.requires.room c.add_outcome.ensures.text)
+    (out.ensures.step durable opened) (out.ensures.goes durable opened) (c.act.ensures.rooted durable opened) c.found.ensures.front c.found.ensures.value c.add_outcome.ensures.short c.requires.room c.add_outcome.ensures.text)

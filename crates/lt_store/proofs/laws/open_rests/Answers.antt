@@ -1,4 +1,5 @@
 use Rattle.lt_store.proofs.GoLaws.{open-rests, fresh-rests}
+use Rattle.lt_store.proofs.RootedLaws.{open-rooted, crashed-rests}
 use Rattle.lt_store.proofs.laws.open_rests.Goals as goal
 
 pub returns-clause-opened : goal.returns-clause-opened
@@ -6,3 +7,9 @@ returns-clause-opened c = open-rests
 
 pub returns-clause-fresh : goal.returns-clause-fresh
 returns-clause-fresh c = fresh-rests
+
+pub returns-clause-rooted : goal.returns-clause-rooted
+returns-clause-rooted c = open-rooted
+
+pub returns-clause-crashed : goal.returns-clause-crashed
+returns-clause-crashed c = crashed-rests

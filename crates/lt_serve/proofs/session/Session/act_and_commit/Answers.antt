@@ -34,7 +34,7 @@ returns-in_err-commit-clause-err g c =
     subst (λ (f : RoundFault). Stopped (extents_of (store_in s)) durable (line ++ piece) f c.args.out.now.settled_text out device after) (sym fault.2)
     (subst (λ (bytes : List ℕ). Stopped (extents_of (store_in s)) durable bytes Device c.args.out.now.settled_text out device after) (taken-and-rest line piece n)
     (stopped-after (store_in s) durable (line ++ take n piece) (kept_in w) w.wrote c.args.out.now c.act_all.new.out (store_in w) device mid went c.requires.durable (drop n piece) out Device after
-    (lost-commit (store_in w) now mid after (c.in_err-commit.ensures.broken now went.goes.opened)) refl)))
+    (lost-commit (store_in w) now mid after (c.in_err-commit.ensures.broken now went.goes.opened) (c.commit.ensures.rooted now went.goes.opened)) refl)))
 
 pub returns-clause-ok : goal.returns-clause-ok
 returns-clause-ok g c = λ durable line opened free held.
@@ -46,4 +46,4 @@ returns-clause-ok g c = λ durable line opened free held.
     let went = c.in_ok-taken.ensures.ok durable line opened free held in
     let now = after_writes durable (take went.goes.sure ((store_in s).log.pending ++ went.writes)) in
     committed-after (store_in s) durable (line ++ take c.in_ok-taken.taken c.args.piece.now) (kept_in w) w.wrote c.args.out.now c.act_all.new.out (store_in w) device mid went c.requires.durable
-    (view_of c.commit.new.self) after (c.in_ok-commit.ensures.opened now went.goes.opened) (ap (λ (v : StoreView). v.log.pending) c.in_ok-commit.ensures.ok)
+    (view_of c.commit.new.self) after (c.in_ok-commit.ensures.opened now went.goes.opened) (c.commit.ensures.rooted now went.goes.opened) (ap (λ (v : StoreView). v.log.pending) c.in_ok-commit.ensures.ok)

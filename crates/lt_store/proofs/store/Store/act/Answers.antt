@@ -5,9 +5,10 @@ use Rattle.lt_store.specs.declared.counts.Stat.{Stat}
 use Rattle.lt_store.specs.declared.writing.Taken.TheVariants as taken
 use Rattle.lt_store.specs.Open.{state_of}
 use Rattle.lt_store.specs.View.{view_of}
-use Rattle.lt_store.proofs.ActLaws.{asks-goes, stat-step, put-step, delete-step, refused-goes, refused-survives, on_err, same-taken, limits}
+use Rattle.lt_store.proofs.ActLaws.{asks-goes, asks-rooted, stat-step, put-step, delete-step, refused-goes, refused-survives, on_err, same-taken, limits}
 use Rattle.lt_store.proofs.AnswerLaws.{all-writes}
 use Rattle.lt_store.proofs.GoLaws.{goes-none}
+use Rattle.lt_store.proofs.RootedLaws.{rooted-none}
 use Rattle.lt_store.proofs.store.Store.act.Goals as goal
 
 -- ---- a put
@@ -89,3 +90,15 @@ returns-in-Stat-clause-step g c = λ durable opened.
 
 pub returns-in-Stat-clause-goes : goal.returns-in-Stat-clause-goes
 returns-in-Stat-clause-goes g c = λ durable opened. goes-none (view_of c.args.self.now) durable _ opened
+
+pub returns-in_err-len-in-Get-clause-rooted : goal.returns-in_err-len-in-Get-clause-rooted
+returns-in_err-len-in-Get-clause-rooted g c = λ durable opened. asks-rooted (view_of c.args.self.now) durable (g.D.Device.state c.args.device.now) (g.D.Device.state c.get.new.device) c.get.ensures.state opened
+
+pub returns-in-Some-clause-rooted : goal.returns-in-Some-clause-rooted
+returns-in-Some-clause-rooted g c = λ durable opened. asks-rooted (view_of c.args.self.now) durable (g.D.Device.state c.args.device.now) (g.D.Device.state c.get.new.device) c.get.ensures.state opened
+
+pub returns-in-None-clause-rooted : goal.returns-in-None-clause-rooted
+returns-in-None-clause-rooted g c = λ durable opened. asks-rooted (view_of c.args.self.now) durable (g.D.Device.state c.args.device.now) (g.D.Device.state c.get.new.device) c.get.ensures.state opened
+
+pub returns-in-Stat-clause-rooted : goal.returns-in-Stat-clause-rooted
+returns-in-Stat-clause-rooted g c = λ durable opened. rooted-none (view_of c.args.self.now) durable (g.D.Device.state c.args.device.now) opened

@@ -14,6 +14,7 @@ use Rattle.lt_store.proofs.CommitLaws.{kept-fits}
 use Rattle.lt_store.proofs.FlushLaws.{Fits, commit-stays, flushed-open, flushed-view}
 use Rattle.lt_store.proofs.MomentLaws.{open-names, open-same}
 use Rattle.lt_store.proofs.PrepareLaws.{may-flush}
+use Rattle.lt_store.proofs.RootedLaws.{rooted-none, commit-rooted}
 use Rattle.lt_store.proofs.SameLaws.{same-names}
 use Rattle.lt_store.proofs.store.Store.commit_flush.Goals as goal
 
@@ -77,3 +78,20 @@ returns-clause-opened g c = λ d o p.
     (sym (flushed-view v c.commit.new.self header c.turn.new.self c.clear.new.self c.requires.idle turned c.clear.ensures))
     (flushed-open v d (g.D.Device.state c.args.device.now) (g.D.Device.state c.commit.new.device) o fits c.of.result header c.requires.idle other kept.number ready.clear ready.placed
     c.commit.new.self c.commit.ensures.geometry c.in_ok-commit.ensures.changed run (c.in_ok-commit.ensures.committed o.rest.image o.rest.shown (each_names v d (g.D.Device.state c.args.device.now) o)) c.in_ok-commit.ensures.sure ready.filters)
+
+pub returns-in_err-from_slice-clause-rooted : goal.returns-in_err-from_slice-clause-rooted
+returns-in_err-from_slice-clause-rooted g c = λ d o. rooted-none (view_of c.args.self.now) d (g.D.Device.state c.args.device.now) o
+
+pub returns-in_err-commit-clause-rooted : goal.returns-in_err-commit-clause-rooted
+returns-in_err-commit-clause-rooted g c = λ d o.
+    let v : StoreView = view_of c.args.self.now in
+    let header : Header = record { log_area = 1 - c.header-header.result.log_area; extents = c.header-header.result.extents; writes = c.args.self.now.writes } in
+    let run = c.commit.ensures.any_moment o.rest.image o.rest.shown (each_names v d (g.D.Device.state c.args.device.now) o) in
+    commit-rooted v d (g.D.Device.state c.args.device.now) (g.D.Device.state c.commit.new.device) o c.of.result header run
+
+pub returns-clause-rooted : goal.returns-clause-rooted
+returns-clause-rooted g c = λ d o.
+    let v : StoreView = view_of c.args.self.now in
+    let header : Header = record { log_area = 1 - c.header-header.result.log_area; extents = c.header-header.result.extents; writes = c.args.self.now.writes } in
+    let run = c.commit.ensures.any_moment o.rest.image o.rest.shown (each_names v d (g.D.Device.state c.args.device.now) o) in
+    commit-rooted v d (g.D.Device.state c.args.device.now) (g.D.Device.state c.commit.new.device) o c.of.result header run

@@ -1,7 +1,12 @@
 use Rattle.lt_store.specs.View.{view_of}
 use Rattle.lt_store.proofs.GoLaws.{goes-none}
+use Rattle.lt_store.proofs.RootedLaws.{rooted-none}
 use Rattle.lt_store.proofs.store.Store.commit_full.Goals as goal
 
 pub returns-then-bytes-le-FLUSH_BYTES-clause-goes :
     goal.returns-then-bytes-le-FLUSH_BYTES-clause-goes
 returns-then-bytes-le-FLUSH_BYTES-clause-goes g c = λ d o. goes-none (view_of c.args.self.now) d (g.D.Device.state c.args.device.now) o
+
+pub returns-then-bytes-le-FLUSH_BYTES-clause-rooted :
+    goal.returns-then-bytes-le-FLUSH_BYTES-clause-rooted
+returns-then-bytes-le-FLUSH_BYTES-clause-rooted g c = λ d o. rooted-none (view_of c.args.self.now) d (g.D.Device.state c.args.device.now) o

@@ -15,6 +15,7 @@ use Rattle.lt_store.specs.View.{view_of}
 use Rattle.lt_store.proofs.MomentLaws.{open-alike}
 use Rattle.lt_store.proofs.PartLaws.{newest-some}
 use Rattle.lt_store.proofs.ReserveLaws.{reserved-len, reserved-free, reserved-distinct, reserved-below, flushed-kept, back-kept, kept-along, memory-few}
+use Rattle.lt_store.proofs.RootedLaws.{rooted-none}
 use Rattle.lt_store.proofs.store.Store.flush.Goals as goal
 
 pub tables_of-requires-clause-ranked : goal.tables_of-requires-clause-ranked
@@ -152,3 +153,24 @@ invariant_of-self-in-Err-NoMemory g c =
           (back-kept me.manifest new.manifest me.log new.log me.memory new.memory me.extents c.take.new.self c.give_back.new.extents _ (length new.filters.items) me.writes new.writes c.len-2.result c.take.new.into.items kept k' r size
           (λ x small. subst (λ ns. is_free c.give_back.new.extents x ≡ (is_free c.take.new.self x || is_in x ns)) numbers (subst (λ e. is_free c.give_back.new.extents x ≡ (is_free e x || is_in x c.deref-in-Err-NoMemory.result.now)) taken (c.give_back.ensures.free x (subst (λ e. x < length e) (sym taken) small)))));
     }
+
+pub returns-in_err-items-clause-rooted : goal.returns-in_err-items-clause-rooted
+returns-in_err-items-clause-rooted g c = λ d o. rooted-none (view_of c.args.self.now) d (g.D.Device.state c.args.device.now) o
+
+pub returns-in_err-tables-clause-rooted : goal.returns-in_err-tables-clause-rooted
+returns-in_err-tables-clause-rooted g c = λ d o. rooted-none (view_of c.args.self.now) d (g.D.Device.state c.args.device.now) o
+
+pub returns-in_err-numbers-clause-rooted : goal.returns-in_err-numbers-clause-rooted
+returns-in_err-numbers-clause-rooted g c = λ d o. rooted-none (view_of c.args.self.now) d (g.D.Device.state c.args.device.now) o
+
+pub returns-in-Err-clause-rooted : goal.returns-in-Err-clause-rooted
+returns-in-Err-clause-rooted g c = λ d o. rooted-none (view_of c.args.self.now) d (g.D.Device.state c.args.device.now) o
+
+pub returns-in-Ok-clause-rooted : goal.returns-in-Ok-clause-rooted
+returns-in-Ok-clause-rooted g c = λ d o. c.flush_into.ensures.rooted d (open-alike (view_of c.args.self.now) d (g.D.Device.state c.args.device.now) false c.take.new.self o)
+
+pub returns-in-Err-NoMemory-clause-rooted : goal.returns-in-Err-NoMemory-clause-rooted
+returns-in-Err-NoMemory-clause-rooted g c = λ d o. c.flush_into.ensures.rooted d (open-alike (view_of c.args.self.now) d (g.D.Device.state c.args.device.now) false c.take.new.self o)
+
+pub returns-in-Err-Device-clause-rooted : goal.returns-in-Err-Device-clause-rooted
+returns-in-Err-Device-clause-rooted g c = λ d o. c.flush_into.ensures.rooted d (open-alike (view_of c.args.self.now) d (g.D.Device.state c.args.device.now) false c.take.new.self o)

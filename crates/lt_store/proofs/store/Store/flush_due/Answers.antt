@@ -6,6 +6,7 @@ use Rattle.lt_store.specs.Open.{StoreView}
 use Rattle.lt_store.specs.Taking.{is_due, IsFullImage}
 use Rattle.lt_store.specs.View.{view_of}
 use Rattle.lt_store.proofs.FullLaws.{full-image, few-extents}
+use Rattle.lt_store.proofs.RootedLaws.{rooted-none}
 use Rattle.lt_store.proofs.store.Store.flush_due.Goals as goal
 
 pub returns-clause-full_images : goal.returns-clause-full_images
@@ -22,3 +23,6 @@ returns-clause-full_images g c = λ short is d o.
           (full-image v d (g.D.Device.state c.args.device.now) _ o kept due left (subst (λ s. MayLeave s left) state may)))),
       few-extents v d (g.D.Device.state c.args.device.now) _ o kept (omega (arith, needed, free, few)),
     )
+
+pub returns-then-pending-gt0-clause-rooted : goal.returns-then-pending-gt0-clause-rooted
+returns-then-pending-gt0-clause-rooted g c = λ d o. rooted-none (view_of c.args.self.now) d (g.D.Device.state c.args.device.now) o

@@ -6,6 +6,7 @@ use Rattle.lt_store.specs.Open.{StoreView}
 use Rattle.lt_store.specs.Taking.{IsFullImage}
 use Rattle.lt_store.specs.View.{view_of}
 use Rattle.lt_store.proofs.GoLaws.{goes-none, goes-stays, goes-append, breaks}
+use Rattle.lt_store.proofs.RootedLaws.{rooted-none, rooted-joins}
 use Rattle.lt_store.proofs.TakeLaws.{full-alike}
 use Rattle.lt_store.proofs.store.Store.write.Goals as goal
 
@@ -54,3 +55,21 @@ returns-in-Some-clause-full_images g c = λ needed free same d o.
     let writes : w.writes ≡ v.writes = ap (λ (z : StoreView). z.writes) rest in
     let (images, few) = c.in_ok-flush_due.ensures.full_images c.in-Some.field-0 (ap Ok c.in-Some.is) _ went.opened in
     ((λ left may. full-alike (IsFullImage left) c.in-Some.field-0.needed c.in-Some.field-0.free needed free same (images left may)), omega (arith, few, extents, writes))
+
+pub returns-then-self-clause-rooted : goal.returns-then-self-clause-rooted
+returns-then-self-clause-rooted g c = λ d o. rooted-none (view_of c.args.self.now) d (g.D.Device.state c.args.device.now) o
+
+pub returns-in_err-flush_due-clause-rooted : goal.returns-in_err-flush_due-clause-rooted
+returns-in_err-flush_due-clause-rooted g c = λ d o.
+    let went = c.in_ok-commit_full.ensures.goes d o in
+    rooted-joins (g.D.Device.state c.args.device.now) (g.D.Device.state c.commit_full.new.device) (g.D.Device.state c.flush_due.new.device) (c.flush_due.ensures.rooted _ went.opened) (c.commit_full.ensures.rooted d o)
+
+pub returns-in-None-clause-rooted : goal.returns-in-None-clause-rooted
+returns-in-None-clause-rooted g c = λ d o.
+    let went = c.in_ok-commit_full.ensures.goes d o in
+    rooted-joins (g.D.Device.state c.args.device.now) (g.D.Device.state c.commit_full.new.device) (g.D.Device.state c.flush_due.new.device) (c.flush_due.ensures.rooted _ went.opened) (c.commit_full.ensures.rooted d o)
+
+pub returns-in-Some-clause-rooted : goal.returns-in-Some-clause-rooted
+returns-in-Some-clause-rooted g c = λ d o.
+    let went = c.in_ok-commit_full.ensures.goes d o in
+    rooted-joins (g.D.Device.state c.args.device.now) (g.D.Device.state c.commit_full.new.device) (g.D.Device.state c.flush_due.new.device) (c.flush_due.ensures.rooted _ went.opened) (c.commit_full.ensures.rooted d o)
