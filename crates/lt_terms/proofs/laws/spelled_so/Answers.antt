@@ -1,4 +1,4 @@
-use Rattle.std.proofs.Common.{◌≡◌, ℕ, ◌<◌, ◌≤◌, List, length, get_or, ⊎_elim, inl, inr, subst, sym, arith}
+use Rattle.std.proofs.Common.{ℕ, ◌<◌, List, length, get_or, inl, inr, subst, sym, arith}
 use Rattle.std.proofs.lemmas.List.{get_or_past}
 use Rattle.std.proofs.lemmas.Bool.{cases_lt}
 use Rattle.lt_terms.specs.Bytes.{AreBytes}
