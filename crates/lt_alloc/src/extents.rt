@@ -51,7 +51,7 @@ impl Extents {
     }
 
     /// Reserves free extents, as many as are needed, and appends their numbers. There is spare room
-    /// for them. Where fewer are free, nothing changes.
+    /// for them. Where fewer are free, nothing changes. Takes no memory.
     pub fn take(&mut self, needed: u32, into: &mut Vec<u32>) -> Result<(), Short>
         requires { vec_len into.old + needed ≤ vec_capacity into.old }
         ensures ok { OnOk result (Reserves needed self.old self.new into.old.items into.new.items) }
@@ -59,7 +59,7 @@ impl Extents {
         ensures numbers { IfErr result (λ short. (short.needed ≡ needed) × (short.free ≡ free_count self.old)) }
         ensures err { OnErr result ((self.new ≡ self.old) × (into.new.items ≡ into.old.items)) }
         ensures extents { length self.new ≡ length self.old }
-        ensures room { vec_capacity into.old ≤ vec_capacity into.new }
+        ensures room { vec_capacity into.new ≡ vec_capacity into.old }
     {
         let free = self.free();
         if free < needed {
@@ -67,7 +67,7 @@ impl Extents {
         }
         for _ in 0..needed {
             let number = self.take_one();
-            into.push(number).unwrap();
+            into.push_reserved(number);
         }
         Ok(())
     }
