@@ -1,6 +1,6 @@
 -- What a source hands out, and what a sink gains, over several calls.
-use Rattle.std.proofs.Common.{ℕ, ◌+◌, ◌-◌, refl, sym, ap, ◌∙◌, List, [], ◌++◌, length, take, drop, Option, Some, None, Result, Ok, Err, OnErr, append_assoc}
-use Rattle.std.proofs.lemmas.List.{take_rest, append-nil, take-append-drop}
+use Rattle.std.proofs.Common.{◌≡◌, ℕ, ◌+◌, ◌-◌, ◌<◌, arith, refl, sym, ap, ◌∙◌, List, [], ◌++◌, length, take, drop, Option, Some, None, Result, Ok, Err, OnErr, append_assoc}
+use Rattle.std.proofs.lemmas.List.{take_rest, append-nil, take-append-drop, take-take}
 use Rattle.std.proofs.Math.Seq.{take-add}
 use Rattle.lt_io.specs.Source.{Takes}
 use Rattle.lt_io.specs.Sink.{Gains, GainsFront}
@@ -63,6 +63,12 @@ GainsFront-stopped old between new bytes written first then =
       whole = sym (take-append-drop written bytes);
       gained = rw append-nil at (Gains-more old between new (take written bytes) [] first then);
     }
+
+-- where a byte was left to write, it failed before the last one
+pub GainsFront-unfinished : (old between new : List ℕ → Type 0) (bytes : List ℕ) (written : ℕ) → written < length bytes → Gains old between (take written bytes) → Gains between new [] → (0 < length bytes) × GainsFront old new (take (length bytes - 1) bytes)
+GainsFront-unfinished old between new bytes written within first then =
+    let same : take written (take (length bytes - 1) bytes) ≡ take written bytes = take-take written (length bytes - 1) bytes (omega (arith, within)) in
+    (omega (arith, within), GainsFront-stopped old between new (take (length bytes - 1) bytes) written (rw same first) then)
 
 -- what holds in any case holds after a failure
 pub OnErr-always : {T E P : Type 0} (r : Result T E) → P → OnErr r P

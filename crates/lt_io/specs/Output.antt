@@ -3,6 +3,7 @@ use Rattle.std.specs.Prelude.{◌≤◌, vec_len, vec_capacity}
 use Rattle.lt_io.specs.Memory.{MemoryOutput}
 use Rattle.lt_io.specs.declared.mem_sink.MemSink.TheInside.{Inside}
 
+-- the sink, seen from outside
 abbrev pub output_of : Inside → MemoryOutput
 output_of sink = record { taken_bytes = sink.taken.items; room_limit = sink.room; step_limit = sink.step; failing_calls = sink.failing.items; next_call = sink.next; fault_count = sink.faults }
 

@@ -8,9 +8,11 @@ abbrev pub without_front : ℕ → List (List ℕ) → List (List ℕ)
 without_front at [] = []
 without_front at (piece ∷ pieces) = drop at piece ∷ pieces
 
+-- the bytes of each piece, of those handed out too
 abbrev pub all_pieces : Inside → List (List ℕ)
 all_pieces p = map (λ piece. piece.items) p.pieces.items
 
+-- the pieces that are left
 abbrev pub left_of : Inside → List (List ℕ)
 left_of p = without_front p.at (drop p.first (all_pieces p))
 
