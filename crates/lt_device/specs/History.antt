@@ -12,6 +12,7 @@ pub data Made : Type 0 where
   wrote : ℕ → List ℕ → Made
   synced : Made
 
+-- what an entry stands for
 abbrev pub made_by : Step → List ℕ → Made
 made_by (Write block) before = wrote block before
 made_by Sync before = synced

@@ -7,6 +7,7 @@ use Rattle.lt_device.specs.State.{Epoch, State}
 use Rattle.lt_device.specs.declared.pick.Pick.{Pick}
 use Rattle.lt_device.specs.declared.pick.Pick.TheVariants.{Stable, Written, Filled}
 
+-- a device in memory
 pub record Memory : Type 0 where
   -- the blocks as they read now, and as they were at the last sync that answered Ok
   pub shown : Image
@@ -47,6 +48,7 @@ fresh image limit failing stop = record {
 
 -- ---- which calls fail
 
+-- the call stands at the stop or behind it
 abbrev pub is_stopped : Option ℕ → ℕ → Bool
 is_stopped None call = false
 is_stopped (Some stop) call = nat_le stop call
@@ -65,6 +67,7 @@ is_full d = d.room == 0
 abbrev pub called : Memory → Bool → Memory
 called d failed = record d { calls = next_count d.calls; faults = if failed then next_count d.faults else d.faults }
 
+-- a read that fails is not counted as one
 abbrev pub after_read : Memory → Memory
 after_read d = if is_failing d then called d true else called (record d { reads = next_count d.reads }) false
 
@@ -80,6 +83,7 @@ recorded d block page = record d {
 abbrev pub unsure : Memory → ℕ → Memory
 unsure d block = record d { unsynced = slice_set d.unsynced block true }
 
+-- a write fails where it is told to, and where the history has no room
 abbrev pub after_write : Memory → ℕ → List ℕ → Memory
 after_write d block page = called (if is_full d then unsure d block else recorded d block page) (is_failing d || is_full d)
 

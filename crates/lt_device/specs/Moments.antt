@@ -12,6 +12,7 @@ pub record MayLeave (s : State) (left : Image) : Type 0 where
   pub unsynced_is : s.unsynced ≡ Some unsynced
   pub crash : IsCrashOf shown unsynced left
 
+-- how many epochs are told
 abbrev pub length_of_past : Option (List Epoch) → ℕ
 length_of_past None = 0
 length_of_past (Some epochs) = length epochs

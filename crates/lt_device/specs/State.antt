@@ -16,6 +16,7 @@ pub record State : Type 0 where
   pub unsynced : Option (List Bool)
   pub past : Option (List Epoch)
 
+-- it tells nothing
 abbrev pub tells_nothing : State
 tells_nothing = record { shown = None; unsynced = None; past = None }
 

@@ -257,6 +257,7 @@ impl Device for MemDevice {
         requires { block < length self.old.shown }
         ensures fails { IsErr result ↔ IsTrue (is_failing self.old) }
         ensures becomes { self.new ≡ after_read self.old }
+        ensures untouched { OnErr result (into.new ≡ into.old) }
 
         ensures content { OnOk result (into.new ≡ block_at self.old.shown block) }
         ensures state { memory_state self.new ≡ memory_state self.old }
