@@ -55,6 +55,7 @@ abbrev pub sent_to : Option Sends → ℕ → Look
 sent_to None suffix = absent
 sent_to (Some s) suffix = if nat_le s.mark suffix then moved s.target else absent
 
+-- what was found in the bucket; else this answer
 abbrev pub look_of : Option Item → Look → Look
 look_of (Some item) other = here item
 look_of None other = other
@@ -73,9 +74,10 @@ bucket_of page = bucket_of_page_1 page
 abbrev pub look_on : List ℕ → List ℕ → Option Look
 look_on page key = option_map (look_in_1 key) (bucket_of_page_1 page)
 
--- the items of the page, and where it sends; none where it spells no bucket
+-- the items of the page; none where it spells no bucket
 abbrev pub items_on : List ℕ → List Item
 items_on page = option_map_or (λ (b : Bucket). b.items) (bucket_of page) []
 
+-- where the page sends; nothing where it spells no bucket, or one that does not send
 abbrev pub sends_on : List ℕ → Option Sends
 sends_on page = option_and_then (λ (b : Bucket). b.sends) (bucket_of page)
