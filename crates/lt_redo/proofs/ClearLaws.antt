@@ -8,12 +8,12 @@ use Rattle.lt_device.proofs.Images.{block_at-set_other}
 use Rattle.lt_device.proofs.Steps.{written_is, written_shown, sync_only}
 use Rattle.lt_format.specs.declared.geometry.Geometry.{Geometry}
 use Rattle.lt_format.specs.Layout.{is_open, log_gate, gate_page, first_open}
-use Rattle.lt_redo.specs.Slots.{HasLog, IsCleared}
+use Rattle.lt_redo.specs.Slots.{HasLog, HasZeroGates, IsCleared}
 use Rattle.lt_redo.proofs.LogLaws.{log_from-closed}
 
 -- the first gates of the log area are closed, as the device reads
 pub record ClosedSoFar (g : Geometry) (b count : ℕ) (s : State) : Type 0 where
-  pub gates : (image : Image) → s.shown ≡ Some image → (k : ℕ) → k < count → is_open (block_at image (log_gate g b k)) ≡ false
+  pub gates : (image : Image) → s.shown ≡ Some image → (k : ℕ) → k < count → block_at image (log_gate g b k) ≡ gate_page false
 
 pub ClosedSoFar-none : (g : Geometry) (b : ℕ) (s : State) → ClosedSoFar g b 0 s
 ClosedSoFar-none g b s = record { gates = λ image shown k below. absurd (omega arith) }
@@ -26,12 +26,16 @@ ClosedSoFar-more g b count n s t so_far wrote in_range is = record {
       (λ (earlier : k < count).
       let before = written_is (log_gate g b count) s t (gate_page false) is image shown in
       let other : log_gate g b k ≢ log_gate g b count = λ e. omega arith in
-      ap is_open (ap (λ (i : Image). block_at i (log_gate g b k)) before.2 ∙ block_at-set_other before.0 (log_gate g b count) (log_gate g b k) (gate_page false) other) ∙ so_far.gates before.0 before.1 k earlier)
+      ap (λ (i : Image). block_at i (log_gate g b k)) before.2 ∙ block_at-set_other before.0 (log_gate g b count) (log_gate g b k) (gate_page false) other ∙ so_far.gates before.0 before.1 k earlier)
       (λ (last : count ≤ k).
       let at : k ≡ count = omega arith in
-      ap (λ j. is_open (block_at image (log_gate g b j))) at ∙ ap is_open (written_shown n (log_gate g b count) s t (gate_page false) wrote.fit in_range is image shown))
+      ap (λ j. block_at image (log_gate g b j)) at ∙ written_shown n (log_gate g b count) s t (gate_page false) wrote.fit in_range is image shown)
       (cases_lt k count);
 }
+
+-- gates of zeros are closed
+pub zeros_cleared : (g : Geometry) (b : ℕ) (image : Image) → HasZeroGates g b image → IsCleared g b image
+zeros_cleared g b image zeros = record { gates = λ k below. ap is_open (zeros.gates k below) }
 
 -- closed gates are no log
 none_open : (g : Geometry) (b : ℕ) (image : Image) → IsCleared g b image → (i n : ℕ) → i + n ≤ g.slots → first_open image (log_gate g b) i n ≡ None
@@ -43,5 +47,5 @@ pub has_log-cleared : (g : Geometry) (b from : ℕ) (image : Image) → IsCleare
 has_log-cleared g b from image closed = record { read = log_from-closed g image b from 0 g.slots [] (none_open g b image closed 0 g.slots (omega arith)) }
 
 -- after a sync that answered Ok each image is what is shown
-pub cleared_sure : (g : Geometry) (b n : ℕ) (s t : State) → IsFit n s → t ≡ synced s → ((image : Image) → s.shown ≡ Some image → IsCleared g b image) → (left : Image) → MayLeave t left → IsCleared g b left
-cleared_sure g b n s t fit made closed left may = closed left (sync_only n s fit left (subst (λ (x : State). MayLeave x left) made may))
+pub zeros_sure : (g : Geometry) (b n : ℕ) (s t : State) → IsFit n s → t ≡ synced s → ((image : Image) → s.shown ≡ Some image → HasZeroGates g b image) → (left : Image) → MayLeave t left → HasZeroGates g b left
+zeros_sure g b n s t fit made zeros left may = zeros left (sync_only n s fit left (subst (λ (x : State). MayLeave x left) made may))

@@ -1,5 +1,5 @@
 -- The images of a commit: content, sync, gate, sync.
-use Rattle.std.proofs.Common.{◌≡◌, inl, ℕ, ◌<◌, ap, subst, true, List, [], ◌∷◌, ◌++◌, length}
+use Rattle.std.proofs.Common.{◌≡◌, inl, ℕ, ◌<◌, ap, subst, ◌∙◌, arith, true, List, [], ◌∷◌, ◌++◌, length}
 use Rattle.lt_terms.specs.Bytes.{Image, block_at}
 use Rattle.lt_terms.specs.Items.{Item}
 use Rattle.lt_device.specs.State.{State, IsFit, Wrote, written, synced}
@@ -9,7 +9,7 @@ use Rattle.lt_device.proofs.Steps.{write_near, sync_only, sync_was, written_show
 use Rattle.lt_device.proofs.Fits.{wrote_fit}
 use Rattle.lt_format.specs.declared.geometry.Geometry.{Geometry}
 use Rattle.lt_format.specs.Layout.{is_open, log_gate, log_content, gate_page}
-use Rattle.lt_redo.specs.Slots.{HasLog, HasLogOrLonger, MayFollow}
+use Rattle.lt_redo.specs.Slots.{HasLog, HasLogOrLonger, HoldsPages, MayFollow}
 use Rattle.lt_redo.proofs.LogLaws.{has_log-content, has_log-gate, has_log-open}
 
 -- a write of a block under another name
@@ -53,3 +53,16 @@ module _ (g : Geometry) (b from : ℕ) (groups : List (List Item)) (group : List
       let near = write_near m _ u v gate left may_v in
       let page : block_at left (log_gate g b (length groups)) ≡ gate_page true = written_shown m _ u v (gate_page true) gate.fit in_range gate_is left (sync_only m v (wrote_fit m _ u v gate) left (subst (λ (x : State). MayLeave x left) sure may)) in
       has_log-open g b from groups follows.room near.image left group content follows (content_sure below wrote.fit is (wrote_fit n _ s t wrote) made near.image near.was) near.same (run.now near.image near.was) (ap is_open page)
+
+-- after all four calls answered Ok the slot holds the pages that were written
+pub pages_written : (g : Geometry) (b slot : ℕ) (content : List ℕ) {n m : ℕ} {s t u v w : State} → log_content g b slot < n → log_gate g b slot < m → Wrote n (log_content g b slot) s t → t ≡ written s (log_content g b slot) content → u ≡ synced t
+    → Wrote m (log_gate g b slot) u v → v ≡ written u (log_gate g b slot) (gate_page true) → w ≡ synced v → (left : Image) → MayLeave w left → HoldsPages g b slot content left
+pages_written g b slot content {n} {m} {s} {t} {u} {v} {w} below in_range wrote is made gate gate_is sure left may =
+    let fit_v = wrote_fit m _ u v gate in
+    let may_s : MayLeave (synced v) left = subst (λ (x : State). MayLeave x left) sure may in
+    let near = write_near m _ u v gate left (sync_was m v fit_v left may_s) in
+    let sure_t : MayLeave (synced t) near.image = subst (λ (x : State). MayLeave x near.image) made near.was in
+    record {
+      gate = written_shown m _ u v (gate_page true) gate.fit in_range gate_is left (sync_only m v fit_v left may_s);
+      page = near.same.others (log_content g b slot) (λ same. absurd (omega arith)) ∙ written_shown n _ s t content wrote.fit below is near.image (sync_only n t (wrote_fit n _ s t wrote) near.image sure_t);
+    }

@@ -8,7 +8,7 @@ use Rattle.lt_format.specs.declared.geometry.Geometry.{Geometry}
 use Rattle.lt_format.specs.Log.{group_page, group_on, log_fits, items_in}
 use Rattle.lt_redo.specs.Group.{IsGathered}
 use Rattle.lt_redo.specs.LogState.{LogState, slots_with, groups_with}
-use Rattle.lt_redo.specs.Slots.{HasLog, HasLogOrLonger, MayFollow}
+use Rattle.lt_redo.specs.Slots.{HasLog, HasLogOrLonger, HoldsPages, MayFollow}
 use Rattle.lt_redo.proofs.GroupLaws.{group_on-group_page}
 
 -- a group that is gathered and not empty
@@ -49,3 +49,6 @@ Committed s old new = (groups : List (List Item)) → length groups ≡ s.slots 
 -- there is a slot for the open group
 abbrev pub HasSlot : LogState → Type 0
 HasSlot s = 0 < length s.pending → s.slots < s.geometry.slots
+
+abbrev pub Spelled : LogState → State → Type 0
+Spelled s new = 0 < length s.pending → (left : Image) → MayLeave new left → HoldsPages s.geometry s.area s.slots (group_page s.pending) left

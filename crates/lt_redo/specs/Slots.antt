@@ -3,7 +3,7 @@ use Rattle.std.specs.Prelude.{◌≡◌, ◌⊎◌, ℕ, ◌<◌, ◌≤◌, tru
 use Rattle.lt_terms.specs.Bytes.{Image, block_at}
 use Rattle.lt_terms.specs.Items.{Item}
 use Rattle.lt_format.specs.declared.geometry.Geometry.{Geometry}
-use Rattle.lt_format.specs.Layout.{is_open, log_gate, log_content}
+use Rattle.lt_format.specs.Layout.{is_open, log_gate, log_content, gate_page}
 use Rattle.lt_format.specs.Log.{log_groups, log_fits, items_in, group_on}
 
 -- the block is the gate or the content of this slot of log area b
@@ -31,3 +31,12 @@ InLogArea g b n = (log_gate g b 0 ≤ n) × (n < log_gate g b g.slots)
 -- all gates of log area b are closed
 pub record IsCleared (g : Geometry) (b : ℕ) (image : Image) : Type 0 where
   pub gates : (k : ℕ) → k < g.slots → is_open (block_at image (log_gate g b k)) ≡ false
+
+-- all gates of log area b are the page of a closed gate
+pub record HasZeroGates (g : Geometry) (b : ℕ) (image : Image) : Type 0 where
+  pub gates : (k : ℕ) → k < g.slots → block_at image (log_gate g b k) ≡ gate_page false
+
+-- the gate of this slot of log area b is the page of an open gate, and its content is this page
+pub record HoldsPages (g : Geometry) (b slot : ℕ) (content : List ℕ) (image : Image) : Type 0 where
+  pub gate : block_at image (log_gate g b slot) ≡ gate_page true
+  pub page : block_at image (log_content g b slot) ≡ content

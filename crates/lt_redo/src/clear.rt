@@ -5,7 +5,7 @@ ghost use Rattle.lt_terms.specs.Bytes.{Image};
 ghost use Rattle.lt_terms.specs.Causes.{HasCause};
 ghost use Rattle.lt_device.specs.Moments.{MayLeave, ConfinedTo, UnsyncedIn};
 ghost use Rattle.lt_format.specs.Layout.{log_gate, gate_page};
-ghost use Rattle.lt_redo.specs.Slots.{HasLog, InLogArea, IsCleared};
+ghost use Rattle.lt_redo.specs.Slots.{HasLog, HasZeroGates, InLogArea, IsCleared};
 
 use lt_device::Device;
 use lt_format::Geometry;
@@ -21,6 +21,7 @@ pub fn clear_area<D: Device>(
     requires within { log_gate geometry.now area geometry.now.slots ≤ D.blocks device.old }
     requires closes { closed.now ≡ gate_page false }
     ensures cleared { OnOk result ((left : Image) → MayLeave (D.state device.new) left → IsCleared geometry.now area left) }
+    ensures zeros { OnOk result ((left : Image) → MayLeave (D.state device.new) left → HasZeroGates geometry.now area left) }
     ensures empty { OnOk result ((writes : ℕ) (left : Image) → MayLeave (D.state device.new) left → HasLog geometry.now area writes [] left) }
     ensures confined { ConfinedTo (InLogArea geometry.now area) (D.state device.old) (D.state device.new) }
     ensures sure { OnOk result (UnsyncedIn (λ _. ⊥) (D.state device.new)) }
@@ -42,6 +43,7 @@ pub fn close_gates<D: Device>(
     requires within { log_gate geometry.now area geometry.now.slots ≤ D.blocks device.old }
     requires closes { closed.now ≡ gate_page false }
     ensures closed { OnOk result ((image : Image) → (D.state device.new).shown ≡ Some image → IsCleared geometry.now area image) }
+    ensures zeros { OnOk result ((image : Image) → (D.state device.new).shown ≡ Some image → HasZeroGates geometry.now area image) }
     ensures confined { ConfinedTo (InLogArea geometry.now area) (D.state device.old) (D.state device.new) }
     ensures size { D.blocks device.new ≡ D.blocks device.old }
     ensures count { D.reads device.new ≡ D.reads device.old }

@@ -11,10 +11,10 @@ ghost use Rattle.lt_item.specs.Views.{item_of};
 ghost use Rattle.lt_device.specs.Reads.{CountsAtMost};
 ghost use Rattle.lt_device.specs.Moments.{MayLeave, Leaves, ConfinedTo, UnsyncedIn};
 ghost use Rattle.lt_format.specs.Layout.{is_geometry, extent_block};
-ghost use Rattle.lt_format.specs.Log.{group_room, log_fits, log_groups, items_in};
+ghost use Rattle.lt_format.specs.Log.{group_room, group_page, log_fits, log_groups, items_in};
 ghost use Rattle.lt_redo.specs.LogState.{LogState, other_area, slots_with, groups_with};
 ghost use Rattle.lt_redo.specs.Opening.{HasItems};
-ghost use Rattle.lt_redo.specs.Slots.{InSlot, InLogArea, HasLog, HasLogOrLonger, IsCleared};
+ghost use Rattle.lt_redo.specs.Slots.{InSlot, InLogArea, HasLog, HasLogOrLonger, HasZeroGates, HoldsPages, IsCleared};
 
 use crate::clear::clear_area;
 use crate::group::{GROUP_ROOM, finish, gather};
@@ -197,6 +197,7 @@ impl Log {
         requires within { extent_block self.old.geometry 0 ≤ D.blocks device.old }
         requires room { 0 < length self.old.pending → self.old.slots < self.old.geometry.slots }
         ensures ok { OnOk result (self.new ≡ record self.old { slots = slots_with self.old.slots self.old.pending; pending = [] }) }
+        ensures err { OnErr result (self.new ≡ self.old) }
         ensures idle { self.old.pending ≡ [] → (IsOk result × (device.new ≡ device.old)) }
 
         // Each image since the start has the log as before, or with the whole open group.
@@ -210,6 +211,10 @@ impl Log {
             → IsTrue (log_fits self.old.writes (items_in (groups ++ self.old.pending ∷ [])))
             → ((left : Image) → MayLeave (D.state device.old) left → HasLog self.old.geometry self.old.area self.old.writes groups left)
             → (left : Image) → MayLeave (D.state device.new) left → HasLog self.old.geometry self.old.area self.old.writes (groups_with groups self.old.pending) left) }
+
+        // The slot holds the group in its one spelling, whatever stood on the device before.
+        ensures spelled { OnOk result (0 < length self.old.pending → (left : Image) → MayLeave (D.state device.new) left
+            → HoldsPages self.old.geometry self.old.area self.old.slots (group_page self.old.pending) left) }
         ensures confined { ConfinedTo (InSlot self.old.geometry self.old.area self.old.slots) (D.state device.old) (D.state device.new) }
         ensures sure { OnOk result (0 < length self.old.pending → UnsyncedIn (λ _. ⊥) (D.state device.new)) }
         ensures size { D.blocks device.new ≡ D.blocks device.old }
@@ -241,6 +246,7 @@ impl Log {
         ensures ok { OnOk result (self.new ≡ record self.old { cleared = true }) }
         ensures err { OnErr result (self.new ≡ self.old) }
         ensures cleared { OnOk result ((left : Image) → MayLeave (D.state device.new) left → IsCleared self.old.geometry (other_area self.old.area) left) }
+        ensures zeros { OnOk result ((left : Image) → MayLeave (D.state device.new) left → HasZeroGates self.old.geometry (other_area self.old.area) left) }
         ensures empty { OnOk result ((writes : ℕ) (left : Image) → MayLeave (D.state device.new) left → HasLog self.old.geometry (other_area self.old.area) writes [] left) }
         ensures confined { ConfinedTo (InLogArea self.old.geometry (other_area self.old.area)) (D.state device.old) (D.state device.new) }
 

@@ -6,7 +6,7 @@ ghost use Rattle.lt_terms.specs.Causes.{HasCause};
 ghost use Rattle.lt_terms.specs.Items.{Item};
 ghost use Rattle.lt_device.specs.Moments.{MayLeave, Leaves, ConfinedTo, UnsyncedIn};
 ghost use Rattle.lt_format.specs.Layout.{log_content, gate_page};
-ghost use Rattle.lt_redo.specs.Slots.{InSlot, HasLog, HasLogOrLonger, MayFollow};
+ghost use Rattle.lt_redo.specs.Slots.{InSlot, HasLog, HasLogOrLonger, HoldsPages, MayFollow};
 
 use lt_device::Device;
 use lt_format::Geometry;
@@ -36,6 +36,7 @@ pub fn write_slot<D: Device>(
         → length groups ≡ slot → MayFollow geometry.now writes groups group content.now
         → ((left : Image) → MayLeave (D.state device.old) left → HasLog geometry.now area writes groups left)
         → (left : Image) → MayLeave (D.state device.new) left → HasLog geometry.now area writes (groups ++ group ∷ []) left) }
+    ensures pages { OnOk result ((left : Image) → MayLeave (D.state device.new) left → HoldsPages geometry.now area slot content.now left) }
     ensures confined { ConfinedTo (InSlot geometry.now area slot) (D.state device.old) (D.state device.new) }
     ensures sure { OnOk result (UnsyncedIn (λ _. ⊥) (D.state device.new)) }
     ensures size { D.blocks device.new ≡ D.blocks device.old }

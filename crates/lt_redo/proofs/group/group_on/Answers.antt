@@ -1,4 +1,4 @@
-use Rattle.std.proofs.Common.{◌≡◌, ℕ, ◌+◌, ◌-◌, ◌<◌, sym, ◌∙◌, List, length, take, drop, arith}
+use Rattle.std.proofs.Common.{ℕ, sym, ◌∙◌, arith}
 use Rattle.std.proofs.lemmas.List.{length-drop, length-take-le}
 use Rattle.lt_redo.proofs.ReadLaws.{items_of-reads, items_of-count}
 use Rattle.lt_redo.proofs.group.group_on.Goals as goal

@@ -1,4 +1,4 @@
-use Rattle.std.proofs.Common.{◌≡◌, ◌+◌, sym, ap, ◌∙◌, Some, arith}
+use Rattle.std.proofs.Common.{◌≡◌, sym, ap, ◌∙◌, Some, arith}
 use Rattle.lt_device.specs.State.{State}
 use Rattle.lt_format.specs.Layout.{log_gate}
 use Rattle.lt_redo.proofs.OpeningLaws.{first_open-closed, first_open-open, first_open-end}

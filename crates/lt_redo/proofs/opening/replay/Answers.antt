@@ -1,12 +1,11 @@
-use Rattle.std.proofs.Common.{◌≡◌, ℕ, ◌+◌, sym, ap, subst, ◌∙◌, false, true, Err, Some, None, Option, List, arith, IsTrue, Bool}
+use Rattle.std.proofs.Common.{◌≡◌, ℕ, sym, ap, subst, ◌∙◌, Err, Some, None, arith}
 use Rattle.std.proofs.lemmas.Result.{err_from_is_err_and}
-use Rattle.lt_terms.specs.Items.{Item}
 use Rattle.lt_terms.specs.Bytes.{block_at}
 use Rattle.lt_device.specs.State.{State}
 use Rattle.lt_format.specs.Layout.{log_content}
-use Rattle.lt_format.specs.Log.{group_on, log_groups}
+use Rattle.lt_format.specs.Log.{group_on}
 use Rattle.lt_redo.specs.Opening.{items_with}
-use Rattle.lt_redo.proofs.OpeningLaws.{handed_on, replayed-none, replayed-more, replayed-damaged, replayed-ended, replayed-open_behind, replayed-all, IsReplayed}
+use Rattle.lt_redo.proofs.OpeningLaws.{handed_on, replayed-more, replayed-damaged, replayed-ended, replayed-open_behind, replayed-all}
 use Rattle.lt_redo.proofs.opening.replay.Goals as goal
 
 pub returns-in_err-check_closed-clause-damaged : goal.returns-in_err-check_closed-clause-damaged

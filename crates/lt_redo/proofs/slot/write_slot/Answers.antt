@@ -5,7 +5,7 @@ use Rattle.lt_device.proofs.Rest.{unsynced_none}
 use Rattle.std.proofs.Common.{List, true}
 use Rattle.lt_device.specs.State.{written}
 use Rattle.lt_format.specs.Layout.{log_gate, log_content, gate_page}
-use Rattle.lt_redo.proofs.CommitLaws.{wrote_at, written_at, content_written, not_longer, gate_written, committed}
+use Rattle.lt_redo.proofs.CommitLaws.{wrote_at, written_at, content_written, not_longer, gate_written, committed, pages_written}
 use Rattle.lt_redo.proofs.slot.write_slot.Goals as goal
 
 pub returns-in_err-write-clause-any_moment : goal.returns-in_err-write-clause-any_moment
@@ -47,6 +47,16 @@ returns-clause-committed g c = on_ok_weaker c.sync-2.result (λ sure. λ from gr
     let below : log_content c.args.geometry.now c.args.area (length groups) < g.D.Device.blocks c.args.device.now = rw same c.requires.within in
     let in_range : log_gate c.args.geometry.now c.args.area (length groups) < g.D.Device.blocks c.sync.new.self = omega (arith, below, c.write.ensures.size, c.sync.ensures.size) in
     committed c.args.geometry.now c.args.area from groups group c.args.content.now follows below in_range wrote is c.in_ok-sync.ensures.ok (wrote_at gate c.write-2.ensures.wrote) gate_is sure run) c.sync-2.ensures.ok
+
+pub returns-clause-pages : goal.returns-clause-pages
+returns-clause-pages g c = on_ok_weaker c.sync-2.result (λ sure.
+    let gate = c.log_gate-gate.ensures in
+    let is = written_at (g.D.Device.state c.args.device.now) (g.D.Device.state c.write.new.self) c.args.content.now (ap (λ k. k + 1) gate) c.in_ok-write.ensures.ok in
+    let opened = subst (λ (page : List ℕ). g.D.Device.state c.write-2.new.self ≡ written (g.D.Device.state c.sync.new.self) c.log_gate-gate.result page) c.requires.opens c.in_ok-write-2.ensures.ok in
+    let gate_is = written_at (g.D.Device.state c.sync.new.self) (g.D.Device.state c.write-2.new.self) (gate_page true) gate opened in
+    let in_range : log_gate c.args.geometry.now c.args.area c.args.slot < g.D.Device.blocks c.sync.new.self = omega (arith, c.requires.within, c.write.ensures.size, c.sync.ensures.size) in
+    pages_written c.args.geometry.now c.args.area c.args.slot c.args.content.now c.requires.within in_range (wrote_at (ap (λ k. k + 1) gate) c.write.ensures.wrote) is c.in_ok-sync.ensures.ok
+    (wrote_at gate c.write-2.ensures.wrote) gate_is sure) c.sync-2.ensures.ok
 
 pub returns-clause-sure : goal.returns-clause-sure
 returns-clause-sure g c = on_ok_weaker c.sync-2.result (λ made. unsynced_none _ made) c.sync-2.ensures.ok

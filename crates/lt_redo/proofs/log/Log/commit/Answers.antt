@@ -1,10 +1,11 @@
-use Rattle.std.proofs.Common.{ℕ, ◌+◌, ◌<◌, List, [], ap, sym, ◌∙◌, subst, arith}
+use Rattle.std.proofs.Common.{rules, ℕ, ◌+◌, ◌<◌, List, [], ap, sym, ◌∙◌, subst, arith}
+use Rattle.std.proofs.lemmas.Result.{MatchResult-from_err}
 use Rattle.lt_terms.specs.Items.{Item}
 use Rattle.lt_redo.specs.LogState.{LogState, slots_with}
-use Rattle.lt_redo.specs.Slots.{HasLog}
+use Rattle.lt_redo.specs.Slots.{HasLog, HoldsPages}
 use Rattle.lt_redo.specs.Group.{items_on}
 use Rattle.lt_redo.proofs.GroupLaws.{IsGathered-none, IsGathered-read, items_on-gathered}
-use Rattle.lt_redo.proofs.NextGroup.{some_items, next_group, slots_with-some, groups_with-some, AnyMoment, Committed, HasSlot}
+use Rattle.lt_redo.proofs.NextGroup.{some_items, next_group, slots_with-some, groups_with-some, AnyMoment, Committed, Spelled, HasSlot}
 use Rattle.lt_redo.proofs.log.Log.commit.Goals as goal
 
 pub returns-in_err-write_slot-clause-any_moment : goal.returns-in_err-write_slot-clause-any_moment
@@ -61,3 +62,15 @@ returns-clause-ok g c =
     ap (λ (items : List Item). record { geometry = i.geometry; area = i.area; writes = i.writes; slots = i.slots + 1; pending = items; cleared = i.cleared }) (items_on-gathered _ 0 0 [] (IsGathered-none _ c.clear.ensures.zeros))
     ∙ ap (λ (n : ℕ). record { geometry = i.geometry; area = i.area; writes = i.writes; slots = n; pending = []; cleared = i.cleared }) (sym (slots_with-some i.slots _ some))
     ∙ ap (λ (s : LogState). record s { slots = slots_with s.slots s.pending; pending = [] }) c.self.view_is
+
+pub returns-clause-spelled : goal.returns-clause-spelled
+returns-clause-spelled g c =
+    let i = c.self.inside in
+    subst (λ (s : LogState). Spelled s (g.D.Device.state c.write_slot.new.device)) c.self.view_is
+    (λ some left may. subst (λ (page : List ℕ). HoldsPages i.geometry i.area i.slots page left) (c.finish.ensures.content _ c.self.invariant.group) (c.in_ok-write_slot.ensures.pages left may))
+
+pub returns-in_err-write_slot-clause-err : goal.returns-in_err-write_slot-clause-err
+returns-in_err-write_slot-clause-err g c =
+    let i = c.self.inside in
+    let same = ap (λ (items : List Item). record { geometry = i.geometry; area = i.area; writes = i.writes; slots = i.slots; pending = items; cleared = i.cleared }) (items_on-gathered _ _ _ _ (c.finish.ensures.gathered _ c.self.invariant.group)) ∙ c.self.view_is in
+    MatchResult-from_err c.from_residual.result _ _ (search rules) (λ _. same)
