@@ -38,6 +38,7 @@ children_fit levels trie node from (c ∷ cs) =
     && nat_le 1 (length c.tables) && groups_fit (is_last_level levels c.node) (length (node_at trie c.node).tables) c
     && children_fit levels trie node (c.node.number + 1) cs
 
+-- the change is one that the trie can take, whatever its new extents are
 abbrev pub shape_fits : ℕ → Trie → Change → Bool
 shape_fits levels trie (flush tables) = nat_le 1 (length tables)
 shape_fits levels trie (deal node dropped children) =
@@ -64,6 +65,7 @@ appended n tables = record n { tables = n.tables ++ tables }
 abbrev pub child_after : Node → ChildChange → Node
 child_after n c = record n { tables = n.tables ++ c.tables; groups = take c.kept_groups n.groups ++ c.groups }
 
+-- the trie after a child's change
 abbrev pub after_child : Trie → ChildChange → Trie
 after_child trie c = with_node trie c.node (child_after (node_at trie c.node) c)
 

@@ -11,10 +11,11 @@ is_geometry g = nat_le 2 g.levels && nat_le g.levels 5 && nat_le 1 g.slots && na
 abbrev pub selector_block : ℕ
 selector_block = 1
 
--- the first block of a manifest area, and how many blocks of it a snapshot may take
+-- the first block of a manifest area
 abbrev pub area_block : ℕ → ℕ
 area_block a = 2 + 433 * a
 
+-- how many blocks of a manifest area a snapshot may take
 abbrev pub snapshot_blocks : ℕ
 snapshot_blocks = 305
 
@@ -22,20 +23,23 @@ snapshot_blocks = 305
 abbrev pub edit_gate : ℕ → ℕ → ℕ
 edit_gate a i = area_block a + snapshot_blocks + 2 * i
 
+-- how many edit slots a manifest area has
 abbrev pub edit_slots : ℕ
 edit_slots = 64
 
--- the gate of log slot i of log area b, and the block of its content
+-- the gate of log slot i of log area b
 abbrev pub log_gate : Geometry → ℕ → ℕ → ℕ
 log_gate g b i = 868 + 2 * g.slots * b + 2 * i
 
+-- the block of its content
 abbrev pub log_content : Geometry → ℕ → ℕ → ℕ
 log_content g b i = log_gate g b i + 1
 
--- the first block of extent x, and how many blocks it has
+-- the first block of extent x
 abbrev pub extent_block : Geometry → ℕ → ℕ
 extent_block g x = 868 + 4 * g.slots + 65 * x
 
+-- how many blocks an extent has
 abbrev pub extent_blocks : ℕ
 extent_blocks = 65
 
@@ -61,6 +65,7 @@ selected block = slice_index block 0 % 2
 abbrev pub is_open : List ℕ → Bool
 is_open block = slice_index block 0 == 1
 
+-- the page that is written as a gate: 1 or 0, and zeros
 abbrev pub gate_page : Bool → List ℕ
 gate_page opened = block_of ((if opened then 1 else 0) ∷ [])
 

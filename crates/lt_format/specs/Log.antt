@@ -6,10 +6,11 @@ use Rattle.lt_terms.specs.Items.{Item, total_cost, spellings, items_of}
 use Rattle.lt_format.specs.declared.geometry.Geometry.{Geometry}
 use Rattle.lt_format.specs.Layout.{is_open, log_gate, log_content, first_open, closed_from}
 
--- what the items of a group cost at most, and those of a whole log
+-- what the items of a group cost at most
 abbrev pub group_room : ℕ
 group_room = 4092
 
+-- what the items of a whole log cost at most
 abbrev pub log_room : ℕ
 log_room = 204092
 

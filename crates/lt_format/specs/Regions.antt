@@ -12,6 +12,7 @@ pub data Region : Type 0 where
   log_slot : ℕ → ℕ → Region
   extent : ℕ → Region
 
+-- the first block of a region
 abbrev pub first_block : Geometry → Region → ℕ
 first_block g superblock = 0
 first_block g selector = selector_block
@@ -20,6 +21,7 @@ first_block g (edit_slot a i) = edit_gate a i
 first_block g (log_slot b i) = log_gate g b i
 first_block g (extent x) = extent_block g x
 
+-- how many blocks a region has
 abbrev pub block_count : Region → ℕ
 block_count superblock = 1
 block_count selector = 1

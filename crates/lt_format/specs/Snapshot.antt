@@ -17,12 +17,15 @@ pub record Manifest : Type 0 where
   pub header : Header
   pub trie : Trie
 
+-- numbers in four bytes each
 abbrev pub numbers : List ℕ → List ℕ
 numbers ns = flat_map u32 ns
 
+-- the entry of a node
 abbrev pub node_bytes : NodeId × Node → List ℕ
 node_bytes (id, n) = id.level ∷ [] ++ u16 id.number ++ u32 n.base ++ u32 (length n.tables) ++ u32 (length n.groups) ++ numbers n.tables ++ numbers n.groups
 
+-- the entries of a trie's nodes
 abbrev pub nodes_bytes : Trie → List ℕ
 nodes_bytes trie = flat_map node_bytes trie
 
@@ -40,6 +43,7 @@ snapshot_page m k = block_of (slice_range (snapshot_bytes m) (block_len * k) (bl
 abbrev pub pages_of : Manifest → ℕ
 pages_of m = (length (snapshot_bytes m) + (block_len - 1)) / block_len
 
+-- what is read next, with what was read; the first error stays
 infixl 10 ◌>>=◌
 abbrev pub ◌>>=◌ : {A B : Type 0} → Result A ℕ → (A → Result B ℕ) → Result B ℕ
 (Ok x) >>= f = f x
@@ -80,12 +84,15 @@ node_read bytes limit levels extents last_id before at = do
   groups ← extents_at bytes limit extents groups_len.0 (tables.0 ++ before) tables.1
   Ok ((record { level = level.0; number = number.0 }, record { base = base.0; tables = tables.0; groups = groups.0 }), groups.1)
 
+-- the name of a node
 abbrev pub id_of : NodeId × Node → NodeId
 id_of e = e.0
 
+-- the extents that a node names
 abbrev pub extents_of : NodeId × Node → List ℕ
 extents_of e = node_extents e.1
 
+-- so many nodes, one after another
 unfoldable pub nodes_read : (ℕ → ℕ) → ℕ → ℕ → ℕ → ℕ → Option NodeId → List ℕ → ℕ → Result (Trie × ℕ) ℕ
 nodes_read bytes limit levels extents zero last_id before at = Ok ([], at)
 nodes_read bytes limit levels extents (suc n) last_id before at = do
@@ -99,9 +106,11 @@ pub record Front : Type 0 where
   pub nodes : ℕ
   pub total : ℕ
 
+-- any number stands
 abbrev pub always : ℕ → Bool
 always n = true
 
+-- only 0 stands
 abbrev pub is_zero : ℕ → Bool
 is_zero n = n == 0
 

@@ -20,6 +20,7 @@ pub record Node : Type 0 where
 abbrev pub Trie : Type 0
 Trie = List (NodeId × Node)
 
+-- the one node of level 0
 abbrev pub root : NodeId
 root = record { level = 0; number = 0 }
 
@@ -40,9 +41,11 @@ path key level = record { level = level; number = path_number key level }
 abbrev pub node_cmp : NodeId → NodeId → Ordering
 node_cmp a b = ordering_then (nat_cmp a.level b.level) (nat_cmp a.number b.number)
 
+-- the two names are equal
 abbrev pub same_node : NodeId → NodeId → Bool
 same_node a b = eq_by_cmp node_cmp a b
 
+-- a node of the last level
 abbrev pub is_last_level : ℕ → NodeId → Bool
 is_last_level levels id = id.level + 1 == levels
 
@@ -54,6 +57,7 @@ is_node levels id = nat_lt id.level levels && nat_lt id.number (8 ^ id.level)
 abbrev pub empty_node : Node
 empty_node = record { base = 0; tables = []; groups = [] }
 
+-- the node under this name, or the empty one
 unfoldable pub node_at : Trie → NodeId → Node
 node_at trie id = unwrap_or (find node_cmp id trie) empty_node
 
@@ -61,13 +65,15 @@ node_at trie id = unwrap_or (find node_cmp id trie) empty_node
 unfoldable pub with_node : Trie → NodeId → Node → Trie
 with_node trie id node = if length node.tables == 0 then where_key node_cmp (λ x. not (same_node id x)) trie else put node_cmp id node trie
 
--- the extents that a node and a trie name
+-- the extents that a node names
 abbrev pub node_extents : Node → List ℕ
 node_extents n = n.tables ++ n.groups
 
+-- the extents that a trie names
 abbrev pub named : Trie → List ℕ
 named trie = flat_map (λ (e : NodeId × Node). node_extents e.1) trie
 
+-- how many tables a trie has
 abbrev pub table_total : Trie → ℕ
 table_total trie = sum_by (λ (e : NodeId × Node). length e.1.tables) trie
 
@@ -80,6 +86,7 @@ abbrev pub all_distinct : List ℕ → Bool
 all_distinct [] = true
 all_distinct (x ∷ xs) = not (is_in x xs) && all_distinct xs
 
+-- each number is below the limit
 abbrev pub all_below : ℕ → List ℕ → Bool
 all_below limit xs = list_all (λ x. nat_lt x limit) xs
 
