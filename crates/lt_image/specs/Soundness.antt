@@ -24,15 +24,17 @@ use Rattle.lt_image.specs.Versions.{extent_in, items_at, stored_items}
 abbrev pub block_if : Bool → ℕ → List ℕ
 block_if test block = if test then block ∷ [] else []
 
--- two items, two targets with their marks, and two buckets are equal
+-- the two items are equal
 abbrev pub same_item : Item → Item → Bool
 same_item a b = kind_byte a.kind == kind_byte b.kind && same_bytes a.key b.key && same_bytes a.value b.value
 
+-- the two targets with their marks are equal
 abbrev pub same_sends : Option Sends → Option Sends → Bool
 same_sends None None = true
 same_sends (Some a) (Some b) = a.target == b.target && a.mark == b.mark
 same_sends a b = false
 
+-- the two buckets are equal
 abbrev pub same_bucket : Bucket → Bucket → Bool
 same_bucket a b = same_sends a.sends b.sends && pointwise same_item a.items b.items
 

@@ -1,12 +1,12 @@
--- What an image stands for, devices at rest, and prefixes of writes. A set of images is a predicate.
-use Rattle.std.specs.Prelude.{◌≡◌, ℕ, ◌+◌, ◌-◌, ◌/◌, ◌≤◌, Bool, not, ◌&&◌, List, [], take, length, Ok, nat_le, nat_lt, IsFalse}
-use Rattle.lt_terms.specs.Bytes.{Image, block_at}
+-- What an image stands for, and prefixes of writes.
+use Rattle.std.specs.Prelude.{◌≡◌, ℕ, ◌+◌, ◌-◌, ◌/◌, ◌≤◌, Bool, not, ◌&&◌, List, [], take, length, Ok, nat_le, nat_lt}
+use Rattle.lt_terms.specs.Bytes.{Image}
 use Rattle.lt_terms.specs.Items.{Item}
 use Rattle.lt_terms.specs.Maps.{after_items}
 use Rattle.lt_tables.specs.Filter.{is_in}
 use Rattle.lt_language.specs.Machine.{State}
 use Rattle.lt_format.specs.Layout.{extent_block, extent_blocks}
-use Rattle.lt_format.specs.Naming.{Named, manifest_of}
+use Rattle.lt_format.specs.Naming.{Named}
 use Rattle.lt_format.specs.Trie.{named}
 use Rattle.lt_image.specs.Opening.{Opened, open_image, number_of}
 use Rattle.lt_image.specs.Versions.{map_of}
@@ -25,11 +25,6 @@ abbrev pub is_free_block : Named → ℕ → Bool
 is_free_block m n =
     let x = (n - extent_block m.geometry 0) / extent_blocks in
     nat_le (extent_block m.geometry 0) n && nat_lt x m.manifest.header.extents && not (is_in x (named m.manifest.trie))
-
--- a crash may leave only images that stand for this state, and they agree but for blocks of extents that the manifest does not name
-pub record AtRest (may_leave : Image → Type 0) (s : State) : Type 0 where
-  pub each : (image : Image) → may_leave image → Stands image s
-  pub agree : (a b : Image) → may_leave a → may_leave b → (m : Named) → manifest_of a ≡ Ok m → (n : ℕ) → IsFalse (is_free_block m n) → block_at a n ≡ block_at b n
 
 -- the state after these writes
 abbrev pub after_writes : State → List Item → State
