@@ -3,6 +3,7 @@ use Rattle.std.specs.Prelude.{◌≤◌, vec_len, vec_capacity}
 use Rattle.lt_line.specs.Held.{HeldLine}
 use Rattle.lt_line.specs.declared.lines.Lines.TheInside.{Inside}
 
+-- what the buffer holds of a line
 abbrev pub held_in : Inside → HeldLine
 held_in lines = record { kept = lines.bytes.items; is_ended = lines.is_ended }
 

@@ -12,6 +12,7 @@ pub record Waiting : Type 0 where
   pub pending_text : List ℕ
   pub room : ℕ
 
+-- no text waits
 abbrev pub nothing_waits : Waiting
 nothing_waits = record { settled_text = []; pending_text = []; room = reply_room }
 
@@ -39,6 +40,7 @@ waiting_at bytes start settled = record {
   room = reply_room - (length bytes - start);
 }
 
+-- what waits in the buffer
 abbrev pub waiting_in : Inside → Waiting
 waiting_in r = waiting_at r.bytes.items r.start r.settled
 

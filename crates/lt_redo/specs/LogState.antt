@@ -18,11 +18,12 @@ pub record LogState : Type 0 where
 abbrev pub other_area : ℕ → ℕ
 other_area area = 1 - area
 
--- how many slots hold a group once the open group is committed, and the groups: an empty one is not written
+-- how many slots hold a group once the open group is committed: an empty one is not written
 abbrev pub slots_with : ℕ → List Item → ℕ
 slots_with slots [] = slots
 slots_with slots (item ∷ items) = slots + 1
 
+-- the groups with the open group behind them, if it has an item
 abbrev pub groups_with : List (List Item) → List Item → List (List Item)
 groups_with groups [] = groups
 groups_with groups (item ∷ items) = groups ++ (item ∷ items) ∷ []
