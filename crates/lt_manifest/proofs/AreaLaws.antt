@@ -6,7 +6,7 @@ use Rattle.lt_device.specs.State.{State, IsFit, synced}
 use Rattle.lt_device.specs.Moments.{MayLeave}
 use Rattle.lt_device.proofs.Steps.{sync_only}
 use Rattle.lt_format.specs.Layout.{area_block, edit_gate, edit_slots, gate_page, is_open}
-use Rattle.lt_manifest.specs.Moments.{ShowsSameOutside}
+use Rattle.lt_manifest.specs.Moments.{EditsClosed, ShowsSameOutside}
 use Rattle.lt_manifest.specs.Written.{AreWritten, ComesFrom, HasArea, InEdits, page_of, page_count}
 use Rattle.lt_manifest.proofs.WriteLaws.{same_some}
 
@@ -17,8 +17,12 @@ area-whole area bytes mid new few pages others gates image told =
     let was = others.each image told in
     record {
       pages = λ k within. was.2.others (area_block area + k) (λ inside. absurd (omega (arith, inside.0))) ∙ pages.each was.0 was.1 k within;
-      closed = record { gates = λ i small. ap is_open (gates.each image told i small) };
+      gates = λ i small. gates.each image told i small;
     }
+
+-- gates that were written closed are closed
+pub area-closed : (area : ℕ) (bytes : List ℕ) (image : Image) → HasArea area bytes image → EditsClosed area image
+area-closed area bytes image has = record { gates = λ i within. ap is_open (has.gates i within) }
 
 -- after a sync that answered Ok each image is what was shown
 pub sure-shown : (n : ℕ) (s t : State) (left : Image) → IsFit n s → t ≡ synced s → MayLeave t left → s.shown ≡ Some left

@@ -8,20 +8,22 @@ use Rattle.lt_device.proofs.Images.{same_outside_joins, same_outside_widens}
 use Rattle.lt_device.proofs.Runs.{begins, joins, weakens, confined_keeps}
 use Rattle.lt_device.proofs.Steps.{written_shown, sync_only}
 use Rattle.lt_format.specs.declared.geometry.Geometry.{Geometry}
-use Rattle.lt_format.specs.Layout.{is_geometry, selected, area_block, edit_gate, is_open}
+use Rattle.lt_format.specs.Layout.{is_geometry, selected, area_block, edit_gate}
 use Rattle.lt_format.specs.Snapshot.{Manifest, IsManifest}
 use Rattle.lt_format.specs.Naming.{Named, InManifest}
-use Rattle.lt_manifest.specs.Moments.{Names, HasNew, HasOldOrNew, EditsClosed}
+use Rattle.lt_manifest.specs.Moments.{Names, HasNew, HasOldOrNew}
 use Rattle.lt_manifest.specs.Next.{IsNext}
-use Rattle.lt_manifest.specs.Written.{HasArea, InArea, page_of, page_count}
+use Rattle.lt_manifest.specs.Written.{HasArea, HasSelected, InArea, page_of, page_count}
 use Rattle.lt_manifest.proofs.NameLaws.{names-other, names-selector, names-new}
 
--- the selector's page selects its area
-pub selects : (area n : ℕ) (s t u : State) (page : List ℕ) (left : Image) → area < 2 → 1 < n → IsFit n s → t ≡ written s 1 page → page ≡ block_of (area ∷ []) → IsFit n t → u ≡ synced t → MayLeave u left → selected (block_at left 1) ≡ area
-selects area n s t u page left small below fit is page_is fit_t made may =
-    let shown = sync_only n t fit_t left (subst (λ (x : State). MayLeave x left) made may) in
-    let at : block_at left 1 ≡ block_of (area ∷ []) = written_shown n 1 s t page fit below is left shown ∙ page_is in
-    ap selected at ∙ omega arith
+-- the selector's page is sure
+pub selector-sure : (area n : ℕ) (s t u : State) (page : List ℕ) (left : Image) → 1 < n → IsFit n s → t ≡ written s 1 page → page ≡ block_of (area ∷ []) → IsFit n t → u ≡ synced t → MayLeave u left → block_at left 1 ≡ block_of (area ∷ [])
+selector-sure area n s t u page left below fit is page_is fit_t made may =
+    written_shown n 1 s t page fit below is left (sync_only n t fit_t left (subst (λ (x : State). MayLeave x left) made may)) ∙ page_is
+
+-- it selects its area
+pub selects : (area : ℕ) (page : List ℕ) → area < 2 → page ≡ block_of (area ∷ []) → selected page ≡ area
+selects area page small is = ap selected is ∙ omega arith
 
 module _ (g : Geometry) (area blocks : ℕ) (bytes : List ℕ) (old : Named) (new : Manifest) (shown : Image) (next : IsNext g area blocks bytes old new) (valid : is_geometry g ≡ true) (small : area < 2) where
   -- the area that is not current
@@ -87,8 +89,17 @@ module _ (g : Geometry) (area blocks : ℕ) (bytes : List ℕ) (old : Named) (ne
       let is = is_new near.image left (near.same.size ∙ sizes near.image near.was) (run.now near.image near.was) (has near.image near.was) (beside near.image near.was) near.same (at left may) in
       subst (λ (h : Geometry). HasNew (record { geometry = h; area = 1 - area; manifest = new }) shown left) next.geometry is
 
--- the edit gates of the area stay closed
-pub gates-stay : (area : ℕ) (bytes : List ℕ) {t u : State} → ((left : Image) → MayLeave t left → HasArea area bytes left) → ConfinedTo (λ k. k ≡ 1) t u → (left : Image) → MayLeave u left → EditsClosed area left
-gates-stay area bytes has confined left may =
+-- an area stays while only the selector is written
+pub area-stays : (area : ℕ) (bytes : List ℕ) (image left : Image) → ((k : ℕ) → (k ≡ 1 → ⊥) → block_at left k ≡ block_at image k) → HasArea area bytes image → HasArea area bytes left
+area-stays area bytes image left same has = record {
+  pages = λ k within. same (area_block area + k) (λ e. absurd (omega arith)) ∙ has.pages k within;
+  gates = λ i within. same (edit_gate area i) (λ e. absurd (omega arith)) ∙ has.gates i within;
+}
+
+pub area-selected : (area : ℕ) (bytes : List ℕ) {t u : State} → ((left : Image) → MayLeave t left → HasArea area bytes left) → ConfinedTo (λ k. k ≡ 1) t u → ((left : Image) → MayLeave u left → block_at left 1 ≡ block_of (area ∷ [])) → (left : Image) → MayLeave u left → HasSelected area bytes left
+area-selected area bytes has confined at left may =
     let near = confined.now left may in
-    record { gates = λ i within. ap is_open (near.same.others (edit_gate area i) (λ e. absurd (omega arith))) ∙ (has near.image near.was).closed.gates i within }
+    record {
+      written = area-stays area bytes near.image left near.same.others (has near.image near.was);
+      selector = at left may;
+    }

@@ -9,7 +9,7 @@ use Rattle.lt_device.proofs.Steps.{written_is, written_shown}
 use Rattle.lt_device.proofs.Fits.{wrote_fit}
 use Rattle.lt_format.specs.declared.geometry.Geometry.{Geometry}
 use Rattle.lt_format.specs.declared.header.Header.{Header}
-use Rattle.lt_format.specs.Layout.{is_geometry, blocks_needed, selected, selector_block, area_block, edit_gate, is_open}
+use Rattle.lt_format.specs.Layout.{is_geometry, blocks_needed, selected, selector_block}
 use Rattle.lt_format.specs.Trie.{IsTrie, all_below}
 use Rattle.lt_format.specs.Changes.{Change, flush, deal, rewrite, new_extents, fits, after_change}
 use Rattle.lt_format.specs.Snapshot.{Manifest, IsManifest, snapshot_in, snapshot_bytes, extents_stand}
@@ -18,10 +18,11 @@ use Rattle.lt_format.proofs.KeepLaws.{after_change-trie}
 use Rattle.lt_format.proofs.SnapshotReadLaws.{pages-fit, pages-read}
 use Rattle.lt_node.specs.View.{TrieView}
 use Rattle.lt_device.specs.Moments.{MayLeave, Leaves}
-use Rattle.lt_manifest.specs.Moments.{Names, HasNew, HasOldOrNew, EditsClosed}
+use Rattle.lt_manifest.specs.Moments.{Names, HasNew, HasOldOrNew}
 use Rattle.lt_manifest.specs.Opened.{IsKept, IsHeld, named_by, fresh}
 use Rattle.lt_manifest.specs.Next.{IsNext}
-use Rattle.lt_manifest.specs.Written.{HasArea, page_of, page_count}
+use Rattle.lt_manifest.specs.Written.{HasArea, HasSelected, page_of, page_count}
+use Rattle.lt_manifest.proofs.CommitLaws.{area-stays}
 use Rattle.lt_manifest.proofs.ReadingLaws.{few_extents}
 
 -- ---- reading
@@ -111,20 +112,21 @@ module _ (n : ℕ) (old new : State) (page bytes : List ℕ) (wrote : Wrote n 1 
       let was = written_is 1 old new page is image told in
       (was.0, was.1, λ k other. ap (λ (i : Image). block_at i k) was.2 ∙ block_at-set_other was.0 1 k page other)
 
-  pub fresh-gates : EditsClosed 0 image
-  fresh-gates =
+  pub fresh-written : HasSelected 0 bytes image
+  fresh-written =
       let was = before_is in
-      record { gates = λ i within. ap is_open (was.2 (edit_gate 0 i) (λ e. absurd (omega arith))) ∙ (has was.0 was.1).closed.gates i within }
+      record {
+        written = area-stays 0 bytes was.0 image was.2 (has was.0 was.1);
+        selector = written_shown n 1 old new page wrote.fit below is image told ∙ zero_page;
+      }
 
   pub fresh-named : (g : Geometry) (extents : ℕ) → is_geometry g ≡ true → IsTrue (extents_stand g n extents) → bytes ≡ snapshot_bytes (fresh g extents).manifest → manifest_in g image ≡ Ok (fresh g extents)
   fresh-named g extents valid stands spelled =
-      let was = before_is in
       let size : length image ≡ n = ((wrote_fit n 1 old new wrote).shown image told).size in
-      let page_is : block_at image 1 ≡ block_of (0 ∷ []) = written_shown n 1 old new page wrote.fit below is image told ∙ zero_page in
       let m : Manifest = (fresh g extents).manifest in
       let snapshot : snapshot_in g image 0 ≡ Ok m = pages-read g image 0 m valid (subst (λ k. IsManifest g k m) (sym size) (fresh-stands g n extents stands))
-      (λ k within. was.2 (area_block 0 + k) (λ e. absurd (omega arith)) ∙ (has was.0 was.1).pages k (subst (λ (b : List ℕ). k < page_count b) (sym spelled) within) ∙ ap (λ (b : List ℕ). page_of b k) spelled) in
-      manifest_in-ok g image (block_of (0 ∷ [])) 0 m (sym page_is) refl snapshot
+      (λ k within. fresh-written.written.pages k (subst (λ (b : List ℕ). k < page_count b) (sym spelled) within) ∙ ap (λ (b : List ℕ). page_of b k) spelled) in
+      manifest_in-ok g image (block_of (0 ∷ [])) 0 m (sym fresh-written.selector) refl snapshot
 
 -- a device with room for some extents has the selector
 pub roomy-below : (g : Geometry) (blocks size extents : ℕ) → IsTrue (extents_stand g blocks extents) → size ≡ blocks → 1 < size

@@ -7,7 +7,8 @@ use Rattle.lt_device.specs.State.{State, IsFit, Wrote, written}
 use Rattle.lt_device.proofs.Images.{block_at-set_other, same_outside_refl, same_outside_joins, same_outside_widens}
 use Rattle.lt_device.proofs.Steps.{written_is, written_shown, wrote_others}
 use Rattle.lt_manifest.specs.Moments.{ShowsSameOutside}
-use Rattle.lt_manifest.specs.Written.{AreWritten, ComesFrom}
+use Rattle.lt_format.specs.Naming.{InManifest}
+use Rattle.lt_manifest.specs.Written.{AreWritten, ComesFrom, InArea, InSelected}
 
 pub written-none : (place : ℕ → ℕ) (page : ℕ → List ℕ) (shown : Option Image) → AreWritten place page 0 shown
 written-none place page shown = record { each = λ image told k below. absurd (omega arith) }
@@ -39,6 +40,13 @@ shows-joins inside part other old mid new first second first_in second_in = reco
       let two = second.each one.0 one.1 in
       (two.0, two.1, same_outside_widens (λ k. part k ⊎ other k) inside before two.0 (λ k either. ⊎_elim (first_in k) (second_in k) either) (same_outside_joins part other before one.0 two.0 one.2 two.2));
 }
+
+pub shows-widens : (inside more : ℕ → Type 0) (old new : Option Image) → ((k : ℕ) → inside k → more k) → ShowsSameOutside inside old new → ShowsSameOutside more old new
+shows-widens inside more old new wider shows = shows-joins more inside inside old new new shows (shows-none inside new) wider wider
+
+-- the selector and the areas are blocks of the manifest
+pub selected-manifest : (area : ℕ) → area < 2 → (k : ℕ) → InSelected area k → InManifest k
+selected-manifest area small k either = ⊎_elim (λ (at : k ≡ 1). (omega arith, omega arith)) (λ (inside : InArea area k). (omega (arith, inside.0), omega (arith, inside.1, small))) either
 
 pub shows-writes : (inside : ℕ → Type 0) (n b : ℕ) (old : Option Image) (mid new : State) → Wrote n b mid new → inside b → ShowsSameOutside inside old mid.shown → ShowsSameOutside inside old new.shown
 shows-writes inside n b old mid new wrote in_it so_far =

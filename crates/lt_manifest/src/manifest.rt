@@ -1,17 +1,18 @@
 //! The manifest in memory: its header and trie, and the area of the device that is current.
 
-ghost use Rattle.std.specs.Prelude.{◌≡◌, ℕ, ◌^◌, ◌<◌, ◌≤◌, Some, Ok, Err, IfOk, IsErrOf, OnOk, IsTrue};
+ghost use Rattle.std.specs.Prelude.{◌≡◌, ℕ, ◌-◌, ◌^◌, ◌<◌, ◌≤◌, Some, Ok, Err, IfOk, IsErrOf, OnOk, IsTrue};
 ghost use Rattle.std.specs.Option.{ForSome};
 ghost use Rattle.lt_terms.specs.Bytes.{Image};
 ghost use Rattle.lt_terms.specs.Causes.{Rose};
 ghost use Rattle.lt_device.specs.Moments.{MayLeave, Leaves, ConfinedTo, UnsyncedIn};
 ghost use Rattle.lt_device.specs.Reads.{CountsAtMost};
 ghost use Rattle.lt_format.specs.Layout.{is_geometry, blocks_needed};
-ghost use Rattle.lt_format.specs.Snapshot.{extents_stand};
+ghost use Rattle.lt_format.specs.Snapshot.{extents_stand, snapshot_bytes};
 ghost use Rattle.lt_format.specs.Naming.{InManifest, manifest_in, may_commit, after_commit};
 ghost use Rattle.lt_node.specs.Changing.{change_of};
 ghost use Rattle.lt_manifest.specs.Moments.{Names, HasNew, HasOldOrNew, EditsClosed, ShowsSameOutside};
 ghost use Rattle.lt_manifest.specs.Opened.{IsKept, IsOpened, InSnapshot, fresh};
+ghost use Rattle.lt_manifest.specs.Written.{HasSelected, InSelected};
 
 use crate::area::{fill_area, fill_selector};
 use crate::reading::read_snapshot;
@@ -59,10 +60,15 @@ impl Manifest {
         requires stands { IsTrue (extents_stand geometry.now (D.blocks device.old) extents) }
         ensures named { OnOk result (ForSome (D.state device.new).shown (λ image. manifest_in geometry.now image ≡ Ok (fresh geometry.now extents))) }
         ensures gates { OnOk result (ForSome (D.state device.new).shown (EditsClosed 0)) }
+        ensures written { OnOk result (ForSome (D.state device.new).shown (HasSelected 0 (snapshot_bytes (fresh geometry.now extents).manifest))) }
 
         // Whatever it answers, it touches no other block and syncs nothing.
         ensures confined { ConfinedTo InManifest (D.state device.old) (D.state device.new) }
         ensures others { ShowsSameOutside InManifest (D.state device.old).shown (D.state device.new).shown }
+
+        // Nor any block of area 1.
+        ensures area_confined { ConfinedTo (InSelected 0) (D.state device.old) (D.state device.new) }
+        ensures area_others { ShowsSameOutside (InSelected 0) (D.state device.old).shown (D.state device.new).shown }
         ensures no_sync { (D.state device.new).past ≡ (D.state device.old).past }
 
         ensures no_memory { IsErrOf result CommitFault.NoMemory → device.new ≡ device.old }
@@ -150,6 +156,7 @@ impl Manifest {
 
         ensures geometry { self.new.geometry ≡ self.old.geometry }
         ensures changed { OnOk result (self.new.manifest ≡ after_commit self.old.manifest (change_of change.now) header.now) }
+        ensures area { OnOk result (self.new.area ≡ 1 - self.old.area) }
 
         // Each image since the start names the manifest as it was, or the new one.
         ensures any_moment { (shown : Image) → (D.state device.old).shown ≡ Some shown
@@ -161,11 +168,16 @@ impl Manifest {
             → ((left : Image) → MayLeave (D.state device.old) left → Names self.old left)
             → (left : Image) → MayLeave (D.state device.new) left → HasNew self.new shown left) }
         ensures gates { OnOk result ((left : Image) → MayLeave (D.state device.new) left → EditsClosed self.new.area left) }
+        ensures written { OnOk result ((left : Image) → MayLeave (D.state device.new) left → HasSelected self.new.area (snapshot_bytes self.new.manifest) left) }
         ensures sure { OnOk result (UnsyncedIn (λ _. ⊥) (D.state device.new)) }
 
         // Whatever it answers, it touches no other block.
         ensures confined { ConfinedTo InManifest (D.state device.old) (D.state device.new) }
         ensures others { ShowsSameOutside InManifest (D.state device.old).shown (D.state device.new).shown }
+
+        // Nor any block of the area that was current.
+        ensures area_confined { ConfinedTo (InSelected (1 - self.old.area)) (D.state device.old) (D.state device.new) }
+        ensures area_others { ShowsSameOutside (InSelected (1 - self.old.area)) (D.state device.old).shown (D.state device.new).shown }
 
         ensures no_memory { IsErrOf result CommitFault.NoMemory → device.new ≡ device.old }
         ensures unchanged { IsErrOf result CommitFault.NoMemory → self.new ≡ self.old }

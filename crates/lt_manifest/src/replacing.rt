@@ -1,14 +1,15 @@
 //! Replacing the manifest of a device.
 
-ghost use Rattle.std.specs.Prelude.{◌≡◌, ℕ, ◌-◌, ◌*◌, ◌<◌, ◌≤◌, Some, IsTrue, OnOk, length};
-ghost use Rattle.lt_terms.specs.Bytes.{Image, block_at};
+ghost use Rattle.std.specs.Prelude.{◌≡◌, ◌-◌, ◌*◌, ◌<◌, ◌≤◌, Some, [], ◌∷◌, IsTrue, OnOk, length};
+ghost use Rattle.lt_terms.specs.Bytes.{Image, block_at, block_of};
 ghost use Rattle.lt_terms.specs.Causes.{HasCause};
 ghost use Rattle.lt_device.specs.Moments.{MayLeave, Leaves, ConfinedTo, UnsyncedIn};
-ghost use Rattle.lt_format.specs.Layout.{is_geometry, selected};
+ghost use Rattle.lt_format.specs.Layout.{is_geometry};
 ghost use Rattle.lt_format.specs.Snapshot.{Manifest};
-ghost use Rattle.lt_format.specs.Naming.{Named, InManifest};
-ghost use Rattle.lt_manifest.specs.Moments.{Names, HasNew, HasOldOrNew, EditsClosed, ShowsSameOutside};
+ghost use Rattle.lt_format.specs.Naming.{Named};
+ghost use Rattle.lt_manifest.specs.Moments.{Names, HasNew, HasOldOrNew, ShowsSameOutside};
 ghost use Rattle.lt_manifest.specs.Next.{IsNext};
+ghost use Rattle.lt_manifest.specs.Written.{HasSelected, InSelected};
 
 use crate::area::{fill_selector, write_area};
 use lt_device::Device;
@@ -34,9 +35,9 @@ pub fn replace<D: Device>(
     ensures committed { OnOk result ((old : Named) (new : Manifest) (shown : Image) → IsNext geometry.now area (D.blocks device.old) bytes.now old new → (D.state device.old).shown ≡ Some shown
         → ((left : Image) → MayLeave (D.state device.old) left → Names old left)
         → (left : Image) → MayLeave (D.state device.new) left → HasNew (record { geometry = geometry.now; area = 1 - area; manifest = new }) shown left) }
-    ensures gates { OnOk result ((left : Image) → MayLeave (D.state device.new) left → EditsClosed (1 - area) left) }
-    ensures confined { ConfinedTo InManifest (D.state device.old) (D.state device.new) }
-    ensures others { ShowsSameOutside InManifest (D.state device.old).shown (D.state device.new).shown }
+    ensures written { OnOk result ((left : Image) → MayLeave (D.state device.new) left → HasSelected (1 - area) bytes.now left) }
+    ensures confined { ConfinedTo (InSelected (1 - area)) (D.state device.old) (D.state device.new) }
+    ensures others { ShowsSameOutside (InSelected (1 - area)) (D.state device.old).shown (D.state device.new).shown }
     ensures sure { OnOk result (UnsyncedIn (λ _. ⊥) (D.state device.new)) }
     ensures size { D.blocks device.new ≡ D.blocks device.old }
     ensures count { D.reads device.new ≡ D.reads device.old }
@@ -51,7 +52,7 @@ pub fn replace<D: Device>(
 fn select_area<D: Device>(device: &mut D, area: u8, page: &mut Page) -> Result<(), Failed>
     requires area { area < 2 }
     requires within { 868 ≤ D.blocks device.old }
-    ensures selected { OnOk result ((left : Image) → MayLeave (D.state device.new) left → selected (block_at left 1) ≡ area) }
+    ensures written { OnOk result ((left : Image) → MayLeave (D.state device.new) left → block_at left 1 ≡ block_of (area ∷ [])) }
     ensures confined { ConfinedTo (λ k. k ≡ 1) (D.state device.old) (D.state device.new) }
     ensures others { ShowsSameOutside (λ k. k ≡ 1) (D.state device.old).shown (D.state device.new).shown }
     ensures sure { OnOk result (UnsyncedIn (λ _. ⊥) (D.state device.new)) }

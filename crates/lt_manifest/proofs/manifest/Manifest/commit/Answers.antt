@@ -1,12 +1,16 @@
-use Rattle.std.proofs.Common.{◌≡◌, ℕ, ◌-◌, ◌≤◌, ◌∙◌, ap, sym, subst, length, IsTrue, arith}
-use Rattle.lt_device.specs.Moments.{Leaves}
+use Rattle.std.proofs.Common.{◌≡◌, ℕ, List, ◌-◌, ◌≤◌, ◌∙◌, ap, sym, subst, length, IsTrue, arith}
+use Rattle.lt_device.specs.Moments.{Leaves, ConfinedTo}
+use Rattle.lt_device.proofs.Runs.{confined_widens}
 use Rattle.lt_format.specs.declared.header.Header.{Header}
 use Rattle.lt_format.specs.Snapshot.{Manifest, snapshot_bytes, extents_stand}
 use Rattle.lt_format.specs.Trie.{Trie}
-use Rattle.lt_format.specs.Naming.{Named, may_commit, after_commit}
+use Rattle.lt_format.specs.Naming.{Named, InManifest, may_commit, after_commit}
 use Rattle.lt_node.specs.Changing.{change_of}
 use Rattle.lt_manifest.specs.Opened.{named_by}
-use Rattle.lt_manifest.specs.Moments.{HasOldOrNew}
+use Rattle.lt_manifest.specs.Moments.{HasOldOrNew, ShowsSameOutside}
+use Rattle.lt_manifest.specs.Written.{HasSelected, InSelected}
+use Rattle.lt_manifest.proofs.WriteLaws.{shows-widens, selected-manifest}
+use Rattle.lt_manifest.proofs.AreaLaws.{area-closed}
 use Rattle.lt_manifest.proofs.ManifestLaws.{IsReady, ready-same, ready-stands, ready-held, ready-next, bytes-fit, AnyMoment, Committed}
 use Rattle.lt_manifest.proofs.manifest.Manifest.commit.Goals as goal
 
@@ -123,3 +127,35 @@ returns-clause-committed g c =
     let spelled : c.deref.result.now ≡ snapshot_bytes m = c.deref.ensures.value ∙ c.spell.ensures ∙ ap (λ (t : Trie). snapshot_bytes (record { header = c.kept-self-inside.result; trie = t })) c.nodes.ensures.nodes in
     subst (Committed (g.D.Device.state c.args.device.now) (g.D.Device.state c.replace.new.device) (named_by i.geometry (1 - i.area) c.kept-self-inside.result c.apply.new.self.nodes)) c.self.view_is
     (λ shown told rests. c.in_ok-replace.ensures.committed (named_by i.geometry i.area i.header i.trie.nodes) m shown (ready-next i.geometry i.area blocks i.header i.trie (change_of c.args.change.now) c.kept-self-inside.result c.apply.new.self ready c.deref.result.now spelled) told rests)
+
+pub returns-clause-gates : goal.returns-clause-gates
+returns-clause-gates g c = λ left may. area-closed _ _ left (c.in_ok-replace.ensures.written left may).written
+
+pub returns-clause-written : goal.returns-clause-written
+returns-clause-written g c = λ left may.
+    let spelled : c.deref.result.now ≡ snapshot_bytes (record { header = c.kept-self-inside.result; trie = c.apply.new.self.nodes }) = c.deref.ensures.value ∙ c.spell.ensures ∙ ap (λ (t : Trie). snapshot_bytes (record { header = c.kept-self-inside.result; trie = t })) c.nodes.ensures.nodes in
+    subst (λ (bytes : List ℕ). HasSelected (1 - c.self.inside.area) bytes left) spelled (c.in_ok-replace.ensures.written left may)
+
+pub returns-in_err-replace-clause-confined : goal.returns-in_err-replace-clause-confined
+returns-in_err-replace-clause-confined g c = confined_widens c.replace.ensures.confined (selected-manifest (1 - c.self.inside.area) (omega (arith, c.self.invariant.kept.area)))
+
+pub returns-in_err-replace-clause-others : goal.returns-in_err-replace-clause-others
+returns-in_err-replace-clause-others g c = shows-widens (InSelected (1 - c.self.inside.area)) InManifest _ _ (selected-manifest (1 - c.self.inside.area) (omega (arith, c.self.invariant.kept.area))) c.replace.ensures.others
+
+pub returns-in_err-replace-clause-area_confined : goal.returns-in_err-replace-clause-area_confined
+returns-in_err-replace-clause-area_confined g c = subst (λ (n : Named). ConfinedTo (InSelected (1 - n.area)) (g.D.Device.state c.args.device.now) (g.D.Device.state c.replace.new.device)) c.self.view_is c.replace.ensures.confined
+
+pub returns-in_err-replace-clause-area_others : goal.returns-in_err-replace-clause-area_others
+returns-in_err-replace-clause-area_others g c = subst (λ (n : Named). ShowsSameOutside (InSelected (1 - n.area)) (g.D.Device.state c.args.device.now).shown (g.D.Device.state c.replace.new.device).shown) c.self.view_is c.replace.ensures.others
+
+pub returns-clause-confined : goal.returns-clause-confined
+returns-clause-confined g c = confined_widens c.replace.ensures.confined (selected-manifest (1 - c.self.inside.area) (omega (arith, c.self.invariant.kept.area)))
+
+pub returns-clause-others : goal.returns-clause-others
+returns-clause-others g c = shows-widens (InSelected (1 - c.self.inside.area)) InManifest _ _ (selected-manifest (1 - c.self.inside.area) (omega (arith, c.self.invariant.kept.area))) c.replace.ensures.others
+
+pub returns-clause-area_confined : goal.returns-clause-area_confined
+returns-clause-area_confined g c = subst (λ (n : Named). ConfinedTo (InSelected (1 - n.area)) (g.D.Device.state c.args.device.now) (g.D.Device.state c.replace.new.device)) c.self.view_is c.replace.ensures.confined
+
+pub returns-clause-area_others : goal.returns-clause-area_others
+returns-clause-area_others g c = subst (λ (n : Named). ShowsSameOutside (InSelected (1 - n.area)) (g.D.Device.state c.args.device.now).shown (g.D.Device.state c.replace.new.device).shown) c.self.view_is c.replace.ensures.others

@@ -1,9 +1,12 @@
-use Rattle.std.proofs.Common.{◌∙◌, ap, sym, subst, length, IsTrue, arith}
+use Rattle.std.proofs.Common.{ℕ, List, ◌∙◌, refl, inl, inr, ap, sym, subst, length, IsTrue, arith}
 use Rattle.lt_device.proofs.Runs.{confined_widens, confined_writes}
 use Rattle.lt_format.specs.Snapshot.{extents_stand}
 use Rattle.lt_format.specs.Naming.{InManifest}
 use Rattle.lt_manifest.specs.Opened.{fresh}
-use Rattle.lt_manifest.proofs.ManifestLaws.{bytes-fit, roomy-below, fresh-stands, fresh-gates, fresh-named}
+use Rattle.lt_manifest.proofs.ManifestLaws.{bytes-fit, roomy-below, fresh-stands, fresh-written, fresh-named}
+use Rattle.lt_manifest.proofs.AreaLaws.{area-closed}
+use Rattle.lt_manifest.proofs.WriteLaws.{shows-widens, shows-writes}
+use Rattle.lt_manifest.specs.Written.{HasSelected, InArea, InSelected}
 use Rattle.lt_manifest.proofs.manifest.Manifest.format.Goals as goal
 
 pub spell-requires-clause-few : goal.spell-requires-clause-few
@@ -28,5 +31,27 @@ returns-clause-named g c = λ image told.
     c.args.geometry.now c.args.extents c.requires.valid stands (c.deref.ensures.value ∙ c.spell.ensures)
 
 pub returns-clause-gates : goal.returns-clause-gates
-returns-clause-gates g c = λ image told.
-    fresh-gates (g.D.Device.blocks c.fill_area.new.device) (g.D.Device.state c.fill_area.new.device) (g.D.Device.state c.write.new.self) _ c.deref.result.now c.write.ensures.wrote c.in_ok-write.ensures.ok c.fill_selector.ensures (roomy-below c.args.geometry.now (g.D.Device.blocks c.args.device.now) (g.D.Device.blocks c.fill_area.new.device) c.args.extents c.requires.stands c.fill_area.ensures.size) c.in_ok-fill_area.ensures.written image told
+returns-clause-gates g c = λ image told. area-closed 0 _ image (fresh-written (g.D.Device.blocks c.fill_area.new.device) (g.D.Device.state c.fill_area.new.device) (g.D.Device.state c.write.new.self) _ c.deref.result.now c.write.ensures.wrote c.in_ok-write.ensures.ok c.fill_selector.ensures (roomy-below c.args.geometry.now (g.D.Device.blocks c.args.device.now) (g.D.Device.blocks c.fill_area.new.device) c.args.extents c.requires.stands c.fill_area.ensures.size) c.in_ok-fill_area.ensures.written image told).written
+
+pub returns-clause-written : goal.returns-clause-written
+returns-clause-written g c = λ image told.
+    subst (λ (bytes : List ℕ). HasSelected 0 bytes image) (c.deref.ensures.value ∙ c.spell.ensures)
+    (fresh-written (g.D.Device.blocks c.fill_area.new.device) (g.D.Device.state c.fill_area.new.device) (g.D.Device.state c.write.new.self) _ c.deref.result.now c.write.ensures.wrote c.in_ok-write.ensures.ok c.fill_selector.ensures (roomy-below c.args.geometry.now (g.D.Device.blocks c.args.device.now) (g.D.Device.blocks c.fill_area.new.device) c.args.extents c.requires.stands c.fill_area.ensures.size) c.in_ok-fill_area.ensures.written image told)
+
+pub returns-in_err-fill_area-clause-area_confined : goal.returns-in_err-fill_area-clause-area_confined
+returns-in_err-fill_area-clause-area_confined g c = confined_widens c.fill_area.ensures.confined (λ k inside. inr inside)
+
+pub returns-in_err-write-clause-area_confined : goal.returns-in_err-write-clause-area_confined
+returns-in_err-write-clause-area_confined g c = confined_writes c.write.ensures.wrote (confined_widens {T = InSelected 0} c.fill_area.ensures.confined (λ k inside. inr inside)) (inl refl)
+
+pub returns-clause-area_confined : goal.returns-clause-area_confined
+returns-clause-area_confined g c = confined_writes c.write.ensures.wrote (confined_widens {T = InSelected 0} c.fill_area.ensures.confined (λ k inside. inr inside)) (inl refl)
+
+pub returns-in_err-fill_area-clause-area_others : goal.returns-in_err-fill_area-clause-area_others
+returns-in_err-fill_area-clause-area_others g c = shows-widens (InArea 0) (InSelected 0) _ _ (λ k inside. inr inside) c.fill_area.ensures.others
+
+pub returns-in_err-write-clause-area_others : goal.returns-in_err-write-clause-area_others
+returns-in_err-write-clause-area_others g c = shows-writes (InSelected 0) _ _ _ _ _ c.write.ensures.wrote (inl refl) (shows-widens (InArea 0) (InSelected 0) _ _ (λ k inside. inr inside) c.fill_area.ensures.others)
+
+pub returns-clause-area_others : goal.returns-clause-area_others
+returns-clause-area_others g c = shows-writes (InSelected 0) _ _ _ _ _ c.write.ensures.wrote (inl refl) (shows-widens (InArea 0) (InSelected 0) _ _ (λ k inside. inr inside) c.fill_area.ensures.others)
