@@ -1,6 +1,7 @@
 -- What an event comes to.
-use Rattle.std.proofs.Common.{◌≡◌, ℕ, ◌+◌, ◌*◌, ◌<◌, ◌≤◌, refl, sym, ap, subst, ◌∙◌, List, [], Bool, true, false, Some, Result, Ok, Err, true≢false}
+use Rattle.std.proofs.Common.{◌≡◌, ℕ, ◌+◌, ◌*◌, ◌<◌, ◌≤◌, refl, sym, ap, subst, ◌∙◌, List, [], Bool, true, false, Option, Some, Result, Ok, Err, true≢false}
 use Rattle.std.specs.Prelude.{◌↔◌, ◌≢◌, IsErrOf, OnErr}
+use Rattle.lt_terms.specs.Items.{Item}
 use Rattle.lt_device.specs.State as told
 use Rattle.lt_device.specs.Moments.{Leaves}
 use Rattle.lt_language.specs.Commands as commands
@@ -90,3 +91,6 @@ same-taken a b h = cc
 -- what a write says of its limit
 pub limits : (a : Taken) (P : Type 0) → (◌≡◌ {A = Result Taken WriteFault} (Ok a) (Ok taken.Limit)) ↔ P → (a ≡ taken.Limit) ↔ P
 limits a P h = (λ is. h.0 (ap Ok is), λ p. same-answer a taken.Limit (h.1 p))
+
+pub same-item : (a b : Item) → ◌≡◌ {A = Option Item} (Some a) (Some b) → a ≡ b
+same-item a b h = cc

@@ -1,9 +1,10 @@
 -- What the commit of the open group says of the store.
-use Rattle.std.proofs.Common.{◌≡◌, ℕ, ◌+◌, ◌-◌, ◌<◌, ◌≤◌, refl, sym, ap, subst, ◌∙◌, List, [], ◌∷◌, ◌++◌, length, take, drop, arith, append-nil, length-append}
+use Rattle.std.proofs.Common.{◌≡◌, inl, ℕ, ◌+◌, ◌-◌, ◌<◌, ◌≤◌, refl, sym, ap, subst, ◌∙◌, List, [], ◌∷◌, ◌++◌, length, take, drop, arith, append-nil, length-append}
 use Rattle.std.specs.Prelude.{IsTrue, Bool}
 use Rattle.lt_terms.specs.Items.{Item}
 use Rattle.lt_device.specs.State as told
-use Rattle.lt_device.specs.Moments.{MayLeave, ConfinedTo, UnsyncedIn}
+use Rattle.lt_device.proofs.Runs.{begins}
+use Rattle.lt_device.specs.Moments.{MayLeave, Leaves, ConfinedTo, UnsyncedIn}
 use Rattle.lt_language.specs.Machine.{State}
 use Rattle.lt_format.specs.Log.{items_in, log_fits}
 use Rattle.lt_format.specs.Naming.{Named}
@@ -14,13 +15,13 @@ use Rattle.lt_image.specs.Standing.{after_writes}
 use Rattle.lt_image.proofs.RootLaws.{root-named}
 use Rattle.std.proofs.lemmas.Bool.{and_parts, leb-true}
 use Rattle.std.specs.Prelude.{nat_le}
-use Rattle.lt_store.specs.Committing.{committed, committed_log}
+use Rattle.lt_store.specs.Committing.{StandsForEither, committed, committed_log}
 use Rattle.lt_store.specs.Going.{Goes, Survives}
 use Rattle.lt_store.specs.Kept.{IsKept, logged}
 use Rattle.lt_store.specs.Open.{IsOpen, StoreView}
 use Rattle.lt_store.proofs.FlushLaws.{Fits}
 use Rattle.lt_store.proofs.GoLaws.{goes-none}
-use Rattle.lt_store.proofs.GroupLaws.{group-open, group-survives, idle-open, items_in-more, take-whole}
+use Rattle.lt_store.proofs.GroupLaws.{group-open, group-survives, group-whole, idle-open, items_in-more, take-whole}
 use Rattle.lt_store.proofs.MomentLaws.{open-same}
 use Rattle.lt_store.proofs.SameLaws.{same-log}
 
@@ -54,6 +55,12 @@ module _ (v : StoreView) (d : State) (filters : ℕ) (old new : told.State) (k :
   commit-survives some =
       let f = kept-fits v d old v.taken filters v.writes o k in
       group-survives v d old new o f (k.slot some) (any o.groups (sym o.slots) (group-fits v d old filters o k) (open-logs v d old o f)) inside
+
+  -- the open group is there as a whole, or not at all
+  pub commit-all : 0 < length v.log.pending → Leaves (StandsForEither d (after_writes d v.log.pending)) old new
+  commit-all some =
+      let f = kept-fits v d old v.taken filters v.writes o k in
+      group-whole v d old new o f (k.slot some) (any o.groups (sym o.slots) (group-fits v d old filters o k) (open-logs v d old o f)) inside
 
   pub commit-goes : Committed v.log old new → 0 < length v.log.pending → UnsyncedIn (λ _. ⊥) new → Goes v [] (committed v) d old new
   commit-goes done some sure =
@@ -101,6 +108,14 @@ commit-breaks v d filters old new k o any inside idle = decide v.log.pending ref
     decide : (p : List Item) → v.log.pending ≡ p → Survives v [] d old new
     decide [] is = subst (λ s. Survives v [] d old s) (sym (idle is)) (goes-none v d old o).survives
     decide (x ∷ xs) is = let some : 0 < length v.log.pending = omega (arith, ap length is) in commit-survives v d filters old new k o any inside some
+
+pub commit-whole : (v : StoreView) (d : State) (filters : ℕ) (old new : told.State) → IsKept v.named v.log v.memory v.taken filters v.writes → IsOpen v d old → AnyMoment v.log old new → ConfinedTo (InSlot v.log.geometry v.log.area v.log.slots) old new
+    → (v.log.pending ≡ [] → new ≡ old) → Leaves (StandsForEither d (after_writes d v.log.pending)) old new
+commit-whole v d filters old new k o any inside idle = decide v.log.pending refl
+  where
+    decide : (p : List Item) → v.log.pending ≡ p → Leaves (StandsForEither d (after_writes d v.log.pending)) old new
+    decide [] is = subst (λ s. Leaves (StandsForEither d (after_writes d v.log.pending)) old s) (sym (idle is)) (begins old (λ left may. inl (o.rest.each left may)))
+    decide (x ∷ xs) is = let some : 0 < length v.log.pending = omega (arith, ap length is) in commit-all v d filters old new k o any inside some
 
 -- the facts in memory after a commit
 pub commit-kept : (n : Named) (log : LogState) (memory : List Item) (taken : List Bool) (filters writes : ℕ) → IsKept n log memory taken filters writes → IsKept n (committed_log log) memory taken filters writes

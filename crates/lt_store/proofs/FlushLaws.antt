@@ -161,6 +161,12 @@ behind-manifest a b same n high = same.others n (λ inside. absurd (let to = ins
 behind-extents : (g : Geometry) (a b : Image) → SameOutside InManifest a b → (x c : ℕ) → block_at b (extent_block g x + c) ≡ block_at a (extent_block g x + c)
 behind-extents g a b same x c = behind-manifest a b same (extent_block g x + c) (omega arith)
 
+-- tables stand as they were
+pub placed-behind : (g : Geometry) (a b : Image) (numbers : List ℕ) (parts : List (List Item)) → SameOutside InManifest a b → PlacedIn g a numbers parts → PlacedIn g b numbers parts
+placed-behind g a b numbers parts same placed =
+    let extents : ◌≡◌ {A = ℕ → ℕ → List ℕ} (extent_at g a) (extent_at g b) = λ i x c. sym (behind-extents g a b same x c) i in
+    subst (λ (f : ℕ → ℕ → List ℕ). AllZip (λ x items. IsPlaced items (f x)) numbers parts) extents placed
+
 same_named : (m : Named) (a b : Image) → SameOutside InManifest a b → SameNamed m a b
 same_named m a b same = record {
   log = λ n low high. behind-manifest a b same n (omega arith);
@@ -201,8 +207,7 @@ module _ (v : StoreView) (d : State) (old new : told.State) (o : IsOpen v d old)
       let log : HasLog g (other_area v.named.manifest.header.log_area) header.writes [] left = has_log-local g (other_area v.named.manifest.header.log_area) header.writes [] shown left (λ k inside. behind-manifest shown left has.same k (let from = inside.0 in omega arith)) clear in
       let log' : HasLog g header.log_area header.writes [] left = subst (λ k. HasLog g k header.writes [] left) (sym other) log in
       let opens : open_image left ≡ Ok p = is-opens left p has.names.read log'.read in
-      let extents : ◌≡◌ {A = ℕ → ℕ → List ℕ} (extent_at g shown) (extent_at g left) = λ i x c. sym (behind-extents g shown left has.same x c) i in
-      let placed_there : PlacedIn g left numbers (cut (newest v.memory)) = subst (λ (f : ℕ → ℕ → List ℕ). AllZip (λ x items. IsPlaced items (f x)) numbers (cut (newest v.memory))) extents placed in
+      let placed_there : PlacedIn g left numbers (cut (newest v.memory)) = placed-behind g shown left numbers (cut (newest v.memory)) has.same placed in
       let placed_log : PlacedIn g left numbers (cut (newest (log_items b))) = subst (λ xs. PlacedIn g left numbers (cut (newest xs))) memory_is placed_there in
       let follows : Follows b p shown left (flush numbers) = record { geometry = refl; trie = refl; kept = (same_named v.named shown left has.same).kept } in
       let count : header.writes ≡ v.named.manifest.header.writes + length (items_in o.groups) = writes ∙ ap (λ xs. v.named.manifest.header.writes + length xs) memory_is in

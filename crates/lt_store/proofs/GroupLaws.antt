@@ -1,5 +1,5 @@
 -- The commit of the open group.
-use Rattle.std.proofs.Common.{◌≡◌, ⊎_elim, ℕ, zero, suc, ◌+◌, ◌<◌, refl, sym, ap, subst, ◌∙◌, List, [], ◌∷◌, ◌++◌, length, take, Some, None, Ok, arith, append-nil, length-append}
+use Rattle.std.proofs.Common.{◌≡◌, ⊎_elim, inl, inr, ℕ, zero, suc, ◌+◌, ◌<◌, refl, sym, ap, subst, ◌∙◌, List, [], ◌∷◌, ◌++◌, length, take, Some, None, Ok, arith, append-nil, length-append}
 use Rattle.std.specs.Prelude.{IsTrue, slice_index_or}
 use Rattle.std.specs.List.{AllByRecursion}
 use Rattle.std.proofs.lemmas.List.Concat.{flat_map-append}
@@ -26,7 +26,7 @@ use Rattle.lt_image.specs.Versions.{extent_in}
 use Rattle.lt_image.proofs.KeptLaws.{log-grows}
 use Rattle.lt_image.proofs.OpenLaws.{is-opens}
 use Rattle.lt_store.specs.Building.{KeepsFilter}
-use Rattle.lt_store.specs.Committing.{committed, committed_log}
+use Rattle.lt_store.specs.Committing.{StandsForEither, committed, committed_log}
 use Rattle.lt_store.specs.Open.{IsOpen, StoreView, root_pile}
 use Rattle.lt_store.proofs.SameLaws.{same-names, same-log, same-filters}
 use Rattle.lt_store.proofs.MomentLaws.{open-names, open-same, open-from, sure-agrees}
@@ -109,13 +109,16 @@ module _ (v : StoreView) (d : State) (old new : told.State) (o : IsOpen v d old)
   inside_at = subst (λ k. ConfinedTo (InSlot v.named.geometry k v.log.slots) old new) fits.area (subst (λ g. ConfinedTo (InSlot g v.log.area v.log.slots) old new) fits.geometry inside)
 
   -- at each moment the pending writes are there or not
-  pub group-survives : Leaves (λ left. IsPrefix left d (v.log.pending ++ []) 0) old new
-  group-survives = weakens (both run inside_at) (λ left has. ⊎_elim
-      (λ as_before. prefix-none left d (v.log.pending ++ []) (subst (Stands left) (after_none d)
+  pub group-whole : Leaves (StandsForEither d (after_writes d v.log.pending)) old new
+  group-whole = weakens (both run inside_at) (λ left has. ⊎_elim
+      (λ as_before. inl (subst (Stands left) (after_none d)
       (grown v d old o fits within has.1.image left o.groups [] has.1.was has.1.same (log_at left o.groups as_before) (sym (append-nil (items_in o.groups))))))
-      (λ longer. prefix-all left d v.log.pending
+      (λ longer. inr
       (grown v d old o fits within has.1.image left (o.groups ++ v.log.pending ∷ []) v.log.pending has.1.was has.1.same (log_at left (o.groups ++ v.log.pending ∷ []) longer) (items_in-more o.groups v.log.pending)))
       has.0.either)
+
+  pub group-survives : Leaves (λ left. IsPrefix left d (v.log.pending ++ []) 0) old new
+  group-survives = weakens group-whole (λ left either. ⊎_elim (prefix-none left d (v.log.pending ++ [])) (prefix-all left d v.log.pending) either)
 
   -- and once the commit answered Ok they are
   pub group-open : ((left : Image) → MayLeave new left → HasLog v.log.geometry v.log.area v.log.writes (groups_with o.groups v.log.pending) left) → UnsyncedIn (λ _. ⊥) new → IsOpen (committed v) (after_writes d v.log.pending) new

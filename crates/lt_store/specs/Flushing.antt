@@ -1,7 +1,7 @@
 -- What a flush does to the store in memory.
 use Rattle.std.specs.Prelude.{◌≡◌, ℕ, ◌<◌, Bool, true, false, List, [], length}
 use Rattle.std.specs.List.{AllByRecursion}
-use Rattle.lt_device.specs.Moments.{Leaves}
+use Rattle.lt_device.specs.Moments.{Leaves, MayLeave}
 use Rattle.lt_device.specs.State as told
 use Rattle.lt_language.specs.Machine.{State}
 use Rattle.lt_tables.specs.Filter.{is_in}
@@ -11,7 +11,8 @@ use Rattle.lt_tables.specs.Cut.{cut, table_total}
 use Rattle.lt_tables.specs.Merge.{newest}
 use Rattle.lt_terms.specs.Bytes.{Image}
 use Rattle.lt_format.specs.declared.header.Header.{Header}
-use Rattle.lt_format.specs.Naming.{Named}
+use Rattle.lt_format.specs.Changes.{flush}
+use Rattle.lt_format.specs.Naming.{Named, after_commit}
 use Rattle.lt_format.specs.Trie.{named}
 use Rattle.lt_redo.specs.LogState.{LogState, other_area}
 use Rattle.lt_redo.specs.Slots.{HasLog}
@@ -57,3 +58,16 @@ pub record IsShort (v : StoreView) (short : Short) : Type 0 where
   pub needed : short.needed ≡ table_total (newest v.memory)
   pub free : short.free ≡ free_count v.taken
   pub few : short.free < short.needed
+
+-- in each image that a crash may leave, the tables of the memory table's newest items stand in these extents
+abbrev pub HasTables : StoreView → List ℕ → told.State → Type 0
+HasTables v numbers device = (left : Image) → MayLeave device left → PlacedIn v.named.geometry left numbers (cut (newest v.memory))
+
+-- The store was flushed: the tables of the memory table's newest items stand behind those of the root, and nothing else of the trie changed; the log is the other area's and empty, and so is the memory table.
+pub record IsFlushed (v w : StoreView) (device : told.State) : Type 0 where
+  pub numbers : List ℕ
+  pub tables : HasTables v numbers device
+  pub manifest : w.named.manifest ≡ after_commit v.named.manifest (flush numbers) (flush_header v)
+  pub log : w.log ≡ flushed_log v.log (flush_header v)
+  pub memory : w.memory ≡ []
+  pub writes : w.writes ≡ v.writes

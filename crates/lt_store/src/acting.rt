@@ -15,10 +15,11 @@ ghost use Rattle.lt_language.specs.Machine.{State, most_writes};
 ghost use Rattle.lt_store.specs.Acting.{IsStep, KeepsOut, MayAct, accepted_as, asked_by, command_of, only_asks, reply_of, write_of};
 ghost use Rattle.lt_store.specs.Committing.{committed};
 ghost use Rattle.lt_store.specs.Damage.{StopsGet};
+ghost use Rattle.lt_store.specs.Flushing.{IsFlushed};
 ghost use Rattle.lt_store.specs.Getting.{IsBucketOf};
-ghost use Rattle.lt_store.specs.Going.{Goes, Survives};
-ghost use Rattle.lt_store.specs.Open.{IsOpen, IsRooted, blocks_of, extents_of, root_pile, state_of};
-ghost use Rattle.lt_store.specs.Taking.{is_due, IsFull, IsFullImage};
+ghost use Rattle.lt_store.specs.Going.{Goes, Survives, appended};
+ghost use Rattle.lt_store.specs.Open.{IsOpen, IsRooted, StoreView, blocks_of, extents_of, root_pile, state_of};
+ghost use Rattle.lt_store.specs.Taking.{is_due, readied, IsFull, IsFullImage};
 ghost use Rattle.lt_store.specs.View.{view_of};
 
 use crate::counts::Stat;
@@ -87,6 +88,17 @@ impl Store {
             → (left : Image) → MayLeave (D.state device.new) left → IsFullImage left needed free }
         ensures at_once { (item : terms.Item) → write_of event.entry ≡ Some item → is_due (view_of self.old) ≡ false → total_cost (view_of self.old).memory ≤ 200000 → total_cost (view_of self.old).log.pending + item_cost item ≤ group_room → (view_of self.old).writes ≢ most_writes
             → (result ≡ Ok (Outcome.Taken Taken.Ok)) × (device.new ≡ device.old) }
+
+        // A write at the limit changes nothing. Else the open group is committed where there is no room, and a flush comes exactly where one is due then.
+        ensures unchanged { result ≡ Ok (Outcome.Taken Taken.Limit) → (view_of self.new ≡ view_of self.old) × (device.new ≡ device.old) }
+        ensures not_due { (item : terms.Item) → write_of event.entry ≡ Some item → is_due (readied (view_of self.old) (item_cost item)) ≡ false → result ≡ Ok (Outcome.Taken Taken.Ok)
+            → view_of self.new ≡ appended (readied (view_of self.old) (item_cost item)) item }
+        ensures flushed { (item : terms.Item) → write_of event.entry ≡ Some item → is_due (readied (view_of self.old) (item_cost item)) ≡ true → result ≡ Ok (Outcome.Taken Taken.Ok) → (durable : State) → IsOpen (view_of self.old) durable (D.state device.old)
+            → (flushed : StoreView) × IsFlushed (readied (view_of self.old) (item_cost item)) flushed (D.state device.new) × (view_of self.new ≡ appended flushed item) }
+        ensures full_same { (item : terms.Item) → write_of event.entry ≡ Some item → (needed free : ℕ) → result ≡ Ok (Outcome.Taken (Taken.Full needed free)) → view_of self.new ≡ readied (view_of self.old) (item_cost item) }
+        ensures memory_due { (item : terms.Item) → write_of event.entry ≡ Some item → IsErrOf result WriteFault.NoMemory → is_due (readied (view_of self.old) (item_cost item)) ≡ true }
+
+        ensures idle { command_of event.entry ≡ None → (view_of self.old).log.pending ≡ [] → (result ≡ Ok Outcome.Committed) × (device.new ≡ device.old) }
         ensures stat { (s : Stat) → result ≡ Ok (Outcome.Stat s) → s ≡ record {
           writes = (view_of self.old).writes;
           reads = D.reads device.old;

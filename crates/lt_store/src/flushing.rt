@@ -13,7 +13,7 @@ ghost use Rattle.lt_format.specs.Naming.{after_commit};
 ghost use Rattle.lt_format.specs.Trie.{all_distinct};
 ghost use Rattle.lt_manifest.specs.Opened as opened;
 ghost use Rattle.lt_store.specs.Building.{IsPart};
-ghost use Rattle.lt_store.specs.Flushing.{AreFree, IsPrepared, IsShort, SomeKept, Stays, flush_header, flushed};
+ghost use Rattle.lt_store.specs.Flushing.{AreFree, HasTables, IsFlushed, IsPrepared, IsShort, SomeKept, Stays, flush_header, flushed};
 ghost use Rattle.lt_alloc.specs.declared.extents.Short.{Short};
 ghost use Rattle.lt_alloc.specs.Extents.{is_free};
 ghost use Rattle.lt_tables.specs.Filter.{is_in};
@@ -51,6 +51,7 @@ impl Store {
         ensures opened { IsOk result → (durable : State) → IsOpen (view_of self.old) durable (D.state device.old) → IsOpen (view_of self.new) durable (D.state device.new) }
         ensures opened_again { IsErrOf result WriteFault.NoMemory → (durable : State) → IsOpen (view_of self.old) durable (D.state device.old) → IsOpen (view_of self.new) durable (D.state device.new) }
 
+        ensures flushed { result ≡ Ok None → (durable : State) → IsOpen (view_of self.old) durable (D.state device.old) → IsFlushed (view_of self.old) (view_of self.new) (D.state device.new) }
         ensures done { result ≡ Ok None → ((view_of self.new).memory ≡ []) × (self.new.log.slots ≡ 0) × (self.new.log.pending ≡ []) }
         ensures short { (short : Short) → result ≡ Ok (Some short) → IsShort (view_of self.old) short × (view_of self.new ≡ view_of self.old) × (device.new ≡ device.old) }
         ensures idle { IsErrOf result WriteFault.NoMemory → self.new.log.pending ≡ [] }
@@ -113,6 +114,7 @@ impl Store {
         ensures opened { OnOk result ((durable : State) → IsOpen (view_of self.old) durable (D.state device.old) → IsOpen (view_of self.new) durable (D.state device.new)) }
         ensures opened_again { IsErrOf result WriteFault.NoMemory → (durable : State) → IsOpen (view_of self.old) durable (D.state device.old) → IsOpen (view_of self.new) durable (D.state device.new) }
 
+        ensures tables { OnOk result ((durable : State) → IsOpen (view_of self.old) durable (D.state device.old) → HasTables (view_of self.old) numbers.now (D.state device.new)) }
         ensures manifest { OnOk result ((view_of self.new).named.manifest ≡ after_commit (view_of self.old).named.manifest (flush numbers.now) (flush_header (view_of self.old))) }
         ensures stands { OnOk result (opened.IsKept (view_of self.new).named) }
         ensures flushed { OnOk result (view_of self.new ≡ flushed (record (view_of self.old) { kept = (view_of self.new).kept }) (view_of self.new).named (flush_header (view_of self.old))) }
@@ -163,6 +165,7 @@ impl Store {
         ensures stays { (durable : State) (o : IsOpen (view_of self.old) durable (D.state device.old)) → IsPrepared (view_of self.old) numbers.now o.rest.image → Stays durable (D.state device.old) (D.state device.new) }
         ensures rooted { (durable : State) → IsOpen (view_of self.old) durable (D.state device.old) → Leaves IsRooted (D.state device.old) (D.state device.new) }
         ensures opened { OnOk result ((durable : State) (o : IsOpen (view_of self.old) durable (D.state device.old)) → IsPrepared (view_of self.old) numbers.now o.rest.image → IsOpen (view_of self.new) durable (D.state device.new)) }
+        ensures tables { OnOk result ((durable : State) (o : IsOpen (view_of self.old) durable (D.state device.old)) → IsPrepared (view_of self.old) numbers.now o.rest.image → HasTables (view_of self.old) numbers.now (D.state device.new)) }
         ensures manifest { OnOk result ((view_of self.new).named.manifest ≡ after_commit (view_of self.old).named.manifest (flush numbers.now) (flush_header (view_of self.old))) }
         ensures stands { OnOk result (opened.IsKept (view_of self.new).named) }
         ensures flushed { OnOk result (view_of self.new ≡ flushed (view_of self.old) (view_of self.new).named (flush_header (view_of self.old))) }

@@ -9,10 +9,10 @@ ghost use Rattle.lt_device.specs.Moments.{Leaves, MayLeave};
 ghost use Rattle.lt_item.specs.Views.{item_of};
 ghost use Rattle.lt_language.specs.Machine.{State, delete_of, most_writes, put_of};
 ghost use Rattle.lt_format.specs.Log.{group_room};
-ghost use Rattle.lt_store.specs.Flushing.{Stays};
+ghost use Rattle.lt_store.specs.Flushing.{IsFlushed, Stays};
 ghost use Rattle.lt_store.specs.Going.{Goes, Survives, appended};
-ghost use Rattle.lt_store.specs.Open.{IsOpen, IsRooted, blocks_of, extents_of};
-ghost use Rattle.lt_store.specs.Taking.{accepted_by, is_due, IsFull, IsFullImage};
+ghost use Rattle.lt_store.specs.Open.{IsOpen, IsRooted, StoreView, blocks_of, extents_of};
+ghost use Rattle.lt_store.specs.Taking.{accepted_by, is_due, readied, IsFull, IsFullImage};
 ghost use Rattle.lt_store.specs.View.{view_of};
 
 use crate::faults::WriteFault;
@@ -66,6 +66,17 @@ impl Store {
         ensures full { (needed free : ℕ) → result ≡ Ok (Taken.Full needed free) → IsFull (view_of self.new) needed free }
         ensures full_images { (needed free : ℕ) → result ≡ Ok (Taken.Full needed free) → (durable : State) → IsOpen (view_of self.old) durable (D.state device.old)
             → ((left : Image) → MayLeave (D.state device.new) left → IsFullImage left needed free) × ((view_of self.old).named.manifest.header.extents < 2 * (view_of self.old).writes) }
+
+        // Before anything else.
+        ensures unchanged { result ≡ Ok Taken.Limit → (view_of self.new ≡ view_of self.old) × (device.new ≡ device.old) }
+
+        // The open group is committed where there is no room, and a flush comes exactly where one is due then.
+        ensures not_due { is_due (readied (view_of self.old) (item_cost (put_of key.now value.now))) ≡ false → result ≡ Ok Taken.Ok → view_of self.new ≡ appended (readied (view_of self.old) (item_cost (put_of key.now value.now))) (put_of key.now value.now) }
+        ensures flushed { is_due (readied (view_of self.old) (item_cost (put_of key.now value.now))) ≡ true → result ≡ Ok Taken.Ok → (durable : State) → IsOpen (view_of self.old) durable (D.state device.old)
+            → (flushed : StoreView) × IsFlushed (readied (view_of self.old) (item_cost (put_of key.now value.now))) flushed (D.state device.new) × (view_of self.new ≡ appended flushed (put_of key.now value.now)) }
+        ensures full_same { (needed free : ℕ) → result ≡ Ok (Taken.Full needed free) → view_of self.new ≡ (readied (view_of self.old) (item_cost (put_of key.now value.now))) }
+        ensures memory { IsErrOf result WriteFault.NoMemory → is_due (readied (view_of self.old) (item_cost (put_of key.now value.now))) ≡ true }
+
         ensures at_once { is_due (view_of self.old) ≡ false → total_cost (view_of self.old).memory ≤ 200000 → total_cost (view_of self.old).log.pending + item_cost (put_of key.now value.now) ≤ group_room → (view_of self.old).writes ≢ most_writes
             → (result ≡ Ok Taken.Ok) × (device.new ≡ device.old) }
         ensures number { IfOk result (λ taken. (view_of self.new).writes ≡ (view_of self.old).writes + length (accepted_by (put_of key.now value.now) taken)) }
@@ -108,6 +119,17 @@ impl Store {
         ensures full { (needed free : ℕ) → result ≡ Ok (Taken.Full needed free) → IsFull (view_of self.new) needed free }
         ensures full_images { (needed free : ℕ) → result ≡ Ok (Taken.Full needed free) → (durable : State) → IsOpen (view_of self.old) durable (D.state device.old)
             → ((left : Image) → MayLeave (D.state device.new) left → IsFullImage left needed free) × ((view_of self.old).named.manifest.header.extents < 2 * (view_of self.old).writes) }
+
+        // Before anything else.
+        ensures unchanged { result ≡ Ok Taken.Limit → (view_of self.new ≡ view_of self.old) × (device.new ≡ device.old) }
+
+        // The open group is committed where there is no room, and a flush comes exactly where one is due then.
+        ensures not_due { is_due (readied (view_of self.old) (item_cost (delete_of key.now))) ≡ false → result ≡ Ok Taken.Ok → view_of self.new ≡ appended (readied (view_of self.old) (item_cost (delete_of key.now))) (delete_of key.now) }
+        ensures flushed { is_due (readied (view_of self.old) (item_cost (delete_of key.now))) ≡ true → result ≡ Ok Taken.Ok → (durable : State) → IsOpen (view_of self.old) durable (D.state device.old)
+            → (flushed : StoreView) × IsFlushed (readied (view_of self.old) (item_cost (delete_of key.now))) flushed (D.state device.new) × (view_of self.new ≡ appended flushed (delete_of key.now)) }
+        ensures full_same { (needed free : ℕ) → result ≡ Ok (Taken.Full needed free) → view_of self.new ≡ (readied (view_of self.old) (item_cost (delete_of key.now))) }
+        ensures memory { IsErrOf result WriteFault.NoMemory → is_due (readied (view_of self.old) (item_cost (delete_of key.now))) ≡ true }
+
         ensures at_once { is_due (view_of self.old) ≡ false → total_cost (view_of self.old).memory ≤ 200000 → total_cost (view_of self.old).log.pending + item_cost (delete_of key.now) ≤ group_room → (view_of self.old).writes ≢ most_writes
             → (result ≡ Ok Taken.Ok) × (device.new ≡ device.old) }
         ensures number { IfOk result (λ taken. (view_of self.new).writes ≡ (view_of self.old).writes + length (accepted_by (delete_of key.now) taken)) }
@@ -149,6 +171,17 @@ impl Store {
         ensures full { (needed free : ℕ) → result ≡ Ok (Taken.Full needed free) → IsFull (view_of self.new) needed free }
         ensures full_images { (needed free : ℕ) → result ≡ Ok (Taken.Full needed free) → (durable : State) → IsOpen (view_of self.old) durable (D.state device.old)
             → ((left : Image) → MayLeave (D.state device.new) left → IsFullImage left needed free) × ((view_of self.old).named.manifest.header.extents < 2 * (view_of self.old).writes) }
+
+        // Before anything else.
+        ensures unchanged { result ≡ Ok Taken.Limit → (view_of self.new ≡ view_of self.old) × (device.new ≡ device.old) }
+
+        // The open group is committed where there is no room, and a flush comes exactly where one is due then.
+        ensures not_due { is_due (readied (view_of self.old) (item_cost (item_of item.now))) ≡ false → result ≡ Ok Taken.Ok → view_of self.new ≡ appended (readied (view_of self.old) (item_cost (item_of item.now))) (item_of item.now) }
+        ensures flushed { is_due (readied (view_of self.old) (item_cost (item_of item.now))) ≡ true → result ≡ Ok Taken.Ok → (durable : State) → IsOpen (view_of self.old) durable (D.state device.old)
+            → (flushed : StoreView) × IsFlushed (readied (view_of self.old) (item_cost (item_of item.now))) flushed (D.state device.new) × (view_of self.new ≡ appended flushed (item_of item.now)) }
+        ensures full_same { (needed free : ℕ) → result ≡ Ok (Taken.Full needed free) → view_of self.new ≡ (readied (view_of self.old) (item_cost (item_of item.now))) }
+        ensures memory { IsErrOf result WriteFault.NoMemory → is_due (readied (view_of self.old) (item_cost (item_of item.now))) ≡ true }
+
         ensures at_once { is_due (view_of self.old) ≡ false → total_cost (view_of self.old).memory ≤ 200000 → total_cost (view_of self.old).log.pending + item_cost (item_of item.now) ≤ group_room → (view_of self.old).writes ≢ most_writes
             → (result ≡ Ok Taken.Ok) × (device.new ≡ device.old) }
         ensures number { IfOk result (λ taken. (view_of self.new).writes ≡ (view_of self.old).writes + length (accepted_by (item_of item.now) taken)) }
@@ -189,6 +222,7 @@ impl Store {
         ensures broken { OnErr result ((durable : State) → IsOpen (view_of self.old) durable (D.state device.old)
             → Survives (view_of self.old) [] durable (D.state device.old) (D.state device.new)) }
         ensures rooted { (durable : State) → IsOpen (view_of self.old) durable (D.state device.old) → Leaves IsRooted (D.state device.old) (D.state device.new) }
+        ensures ready { OnOk result (view_of self.new ≡ readied (view_of self.old) cost) }
         ensures at_once { total_cost (view_of self.old).memory ≤ 200000 → total_cost self.old.log.pending + cost ≤ group_room
             → IsOk result × (view_of self.new ≡ view_of self.old) × (device.new ≡ device.old) }
         ensures up { OnOk result (self.new.is_up ≡ true) }
@@ -217,6 +251,8 @@ impl Store {
         ensures opened { IsOk result → (durable : State) → IsOpen (view_of self.old) durable (D.state device.old) → IsOpen (view_of self.new) durable (D.state device.new) }
         ensures opened_again { IsErrOf result WriteFault.NoMemory → (durable : State) → IsOpen (view_of self.old) durable (D.state device.old) → IsOpen (view_of self.new) durable (D.state device.new) }
         ensures not_due { is_due (view_of self.old) ≡ false → (result ≡ Ok None) × (view_of self.new ≡ view_of self.old) × (device.new ≡ device.old) }
+        ensures flushed { is_due (view_of self.old) ≡ true → result ≡ Ok None → (durable : State) → IsOpen (view_of self.old) durable (D.state device.old) → IsFlushed (view_of self.old) (view_of self.new) (D.state device.new) }
+        ensures short { (short : Short) → result ≡ Ok (Some short) → view_of self.new ≡ view_of self.old }
         ensures pending { IsOk result → self.new.log.pending ≡ self.old.log.pending }
         ensures pending_again { IsErrOf result WriteFault.NoMemory → self.new.log.pending ≡ self.old.log.pending }
         ensures small { result ≡ Ok None → total_cost (view_of self.new).memory ≤ 200000 }

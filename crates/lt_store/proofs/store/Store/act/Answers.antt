@@ -1,11 +1,17 @@
-use Rattle.std.proofs.Common.{rules, sym, ap, ◌∙◌, [], Ok, vec_len}
+use Rattle.std.proofs.Common.{rules, ◌≡◌, sym, ap, subst, ◌∙◌, true, [], Ok, vec_len}
 use Rattle.std.specs.Prelude.{IsErrOf}
 use Rattle.lt_htable.specs.declared.faults.LookFault.TheVariants.{Damaged}
 use Rattle.lt_store.specs.declared.counts.Stat.{Stat}
 use Rattle.lt_store.specs.declared.writing.Taken.TheVariants as taken
-use Rattle.lt_store.specs.Open.{state_of}
+use Rattle.lt_terms.specs.Items.{Item, item_cost}
+use Rattle.lt_language.specs.Machine.{put_of, delete_of}
+use Rattle.lt_store.specs.Acting.{write_of}
+use Rattle.lt_store.specs.Flushing.{IsFlushed}
+use Rattle.lt_store.specs.Going.{appended}
+use Rattle.lt_store.specs.Taking.{is_due, readied}
+use Rattle.lt_store.specs.Open.{StoreView, state_of}
 use Rattle.lt_store.specs.View.{view_of}
-use Rattle.lt_store.proofs.ActLaws.{asks-goes, asks-rooted, stat-step, put-step, delete-step, refused-goes, refused-survives, on_err, same-taken, limits}
+use Rattle.lt_store.proofs.ActLaws.{asks-goes, asks-rooted, stat-step, put-step, delete-step, refused-goes, refused-survives, on_err, same-item, same-taken, limits}
 use Rattle.lt_store.proofs.AnswerLaws.{all-writes}
 use Rattle.lt_store.proofs.GoLaws.{goes-none}
 use Rattle.lt_store.proofs.RootedLaws.{rooted-none}
@@ -102,3 +108,19 @@ returns-in-None-clause-rooted g c = λ durable opened. asks-rooted (view_of c.ar
 
 pub returns-in-Stat-clause-rooted : goal.returns-in-Stat-clause-rooted
 returns-in-Stat-clause-rooted g c = λ durable opened. rooted-none (view_of c.args.self.now) durable (g.D.Device.state c.args.device.now) opened
+
+pub returns-in_ok-put-in-Put-clause-flushed : goal.returns-in_ok-put-in-Put-clause-flushed
+returns-in_ok-put-in-Put-clause-flushed g c = λ item is due ok durable opened.
+    let v : StoreView = view_of c.args.self.now in
+    let answer = c.in_ok-put-in-Put in
+    let same : put_of c.in-Put.key.now c.in-Put.value.now ≡ item = same-item _ _ (sym (ap write_of c.in-Put.is) ∙ is) in
+    subst (λ (i : Item). is_due (readied v (item_cost i)) ≡ true → (x : StoreView) × IsFlushed (readied v (item_cost i)) x (g.D.Device.state c.put.new.device) × (view_of c.put.new.self ≡ appended x i)) same
+    (λ late. answer.ensures.flushed late (ap Ok (same-taken answer.field-0 taken.Ok ok)) durable opened) due
+
+pub returns-in_ok-delete-in-Delete-clause-flushed : goal.returns-in_ok-delete-in-Delete-clause-flushed
+returns-in_ok-delete-in-Delete-clause-flushed g c = λ item is due ok durable opened.
+    let v : StoreView = view_of c.args.self.now in
+    let answer = c.in_ok-delete-in-Delete in
+    let same : delete_of c.in-Delete.key.now ≡ item = same-item _ _ (sym (ap write_of c.in-Delete.is) ∙ is) in
+    subst (λ (i : Item). is_due (readied v (item_cost i)) ≡ true → (x : StoreView) × IsFlushed (readied v (item_cost i)) x (g.D.Device.state c.delete.new.device) × (view_of c.delete.new.self ≡ appended x i)) same
+    (λ late. answer.ensures.flushed late (ap Ok (same-taken answer.field-0 taken.Ok ok)) durable opened) due

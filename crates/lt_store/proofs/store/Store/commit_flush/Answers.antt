@@ -7,11 +7,13 @@ use Rattle.lt_format.specs.Trie.{all_distinct}
 use Rattle.lt_language.specs.Machine.{State}
 use Rattle.lt_manifest.specs.Moments.{Names}
 use Rattle.lt_redo.specs.LogState.{other_area}
+use Rattle.lt_tables.specs.Cut.{cut}
+use Rattle.lt_tables.specs.Merge.{newest}
 use Rattle.lt_store.specs.Flushing.{AreFree, IsPrepared}
 use Rattle.lt_store.specs.Open.{IsOpen, StoreView}
 use Rattle.lt_store.specs.View.{view_of}
 use Rattle.lt_store.proofs.CommitLaws.{kept-fits}
-use Rattle.lt_store.proofs.FlushLaws.{Fits, commit-stays, flushed-open, flushed-view}
+use Rattle.lt_store.proofs.FlushLaws.{Fits, commit-stays, flushed-open, flushed-view, placed-behind}
 use Rattle.lt_store.proofs.MomentLaws.{open-names, open-same}
 use Rattle.lt_store.proofs.PrepareLaws.{may-flush}
 use Rattle.lt_store.proofs.RootedLaws.{rooted-none, commit-rooted}
@@ -95,3 +97,9 @@ returns-clause-rooted g c = λ d o.
     let header : Header = record { log_area = 1 - c.header-header.result.log_area; extents = c.header-header.result.extents; writes = c.args.self.now.writes } in
     let run = c.commit.ensures.any_moment o.rest.image o.rest.shown (each_names v d (g.D.Device.state c.args.device.now) o) in
     commit-rooted v d (g.D.Device.state c.args.device.now) (g.D.Device.state c.commit.new.device) o c.of.result header run
+
+pub returns-clause-tables : goal.returns-clause-tables
+returns-clause-tables g c = λ d o p left may.
+    let v : StoreView = view_of c.args.self.now in
+    let has = c.in_ok-commit.ensures.committed o.rest.image o.rest.shown (each_names v d (g.D.Device.state c.args.device.now) o) left may in
+    placed-behind v.named.geometry o.rest.image left c.args.numbers.now (cut (newest v.memory)) has.same p.placed

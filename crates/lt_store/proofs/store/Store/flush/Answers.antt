@@ -174,3 +174,15 @@ returns-in-Err-NoMemory-clause-rooted g c = λ d o. c.flush_into.ensures.rooted 
 
 pub returns-in-Err-Device-clause-rooted : goal.returns-in-Err-Device-clause-rooted
 returns-in-Err-Device-clause-rooted g c = λ d o. c.flush_into.ensures.rooted d (open-alike (view_of c.args.self.now) d (g.D.Device.state c.args.device.now) false c.take.new.self o)
+
+pub returns-in-Ok-clause-flushed : goal.returns-in-Ok-clause-flushed
+returns-in-Ok-clause-flushed g c = λ is d o.
+    let flushed_is = c.in-Ok.ensures.flushed in
+    record {
+      numbers = c.deref-3.result.now;
+      tables = c.in-Ok.ensures.tables d (open-alike (view_of c.args.self.now) d (g.D.Device.state c.args.device.now) false c.take.new.self o);
+      manifest = c.in-Ok.ensures.manifest;
+      log = ap (λ (w : StoreView). w.log) flushed_is;
+      memory = ap (λ (w : StoreView). w.memory) flushed_is;
+      writes = c.in-Ok.ensures.writes;
+    }

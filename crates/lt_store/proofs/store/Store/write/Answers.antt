@@ -1,13 +1,15 @@
-use Rattle.std.proofs.Common.{rules, ◌≡◌, ap, sym, subst, [], ◌∷◌, Ok, IsErrOf, arith}
+use Rattle.std.proofs.Common.{rules, ◌≡◌, ap, sym, subst, ◌∙◌, true, false, [], ◌∷◌, Ok, IsErrOf, arith}
 use Rattle.lt_item.specs.Views.{item_of}
+use Rattle.lt_terms.specs.Items.{item_cost}
 use Rattle.lt_store.specs.declared.faults.WriteFault.TheVariants as faults
-use Rattle.lt_store.specs.Going.{Goes}
+use Rattle.lt_store.specs.Going.{Goes, appended}
+use Rattle.lt_store.specs.Flushing.{IsFlushed}
 use Rattle.lt_store.specs.Open.{StoreView}
-use Rattle.lt_store.specs.Taking.{IsFullImage}
+use Rattle.lt_store.specs.Taking.{IsFullImage, is_due, readied}
 use Rattle.lt_store.specs.View.{view_of}
 use Rattle.lt_store.proofs.GoLaws.{goes-none, goes-stays, goes-append, breaks}
 use Rattle.lt_store.proofs.RootedLaws.{rooted-none, rooted-joins}
-use Rattle.lt_store.proofs.TakeLaws.{full-alike}
+use Rattle.lt_store.proofs.TakeLaws.{full-alike, not-false}
 use Rattle.lt_store.proofs.store.Store.write.Goals as goal
 
 pub returns-then-self-clause-taken : goal.returns-then-self-clause-taken
@@ -73,3 +75,32 @@ pub returns-in-Some-clause-rooted : goal.returns-in-Some-clause-rooted
 returns-in-Some-clause-rooted g c = λ d o.
     let went = c.in_ok-commit_full.ensures.goes d o in
     rooted-joins (g.D.Device.state c.args.device.now) (g.D.Device.state c.commit_full.new.device) (g.D.Device.state c.flush_due.new.device) (c.flush_due.ensures.rooted _ went.opened) (c.commit_full.ensures.rooted d o)
+
+pub returns-in-None-clause-not_due : goal.returns-in-None-clause-not_due
+returns-in-None-clause-not_due g c = λ due is.
+    let v : StoreView = view_of c.args.self.now in
+    let ready : view_of c.commit_full.new.self ≡ readied v (item_cost (item_of c.args.item.now)) = c.in_ok-commit_full.ensures.ready ∙ ap (readied v) c.cost.ensures in
+    let stays = c.flush_due.ensures.not_due (subst (λ (z : StoreView). is_due z ≡ false) (sym ready) due) in
+    c.append.ensures ∙ ap (λ (z : StoreView). appended z (item_of c.args.item.now)) (stays.1 ∙ ready)
+
+pub returns-in-None-clause-flushed : goal.returns-in-None-clause-flushed
+returns-in-None-clause-flushed g c = λ due is d o.
+    let v : StoreView = view_of c.args.self.now in
+    let s = g.D.Device.state c.flush_due.new.device in
+    let ready : view_of c.commit_full.new.self ≡ readied v (item_cost (item_of c.args.item.now)) = c.in_ok-commit_full.ensures.ready ∙ ap (readied v) c.cost.ensures in
+    let went = c.in_ok-commit_full.ensures.goes d o in
+    let flushed = c.flush_due.ensures.flushed (subst (λ (z : StoreView). is_due z ≡ true) (sym ready) due) (search rules) _ went.opened in
+    (view_of c.flush_due.new.self, subst (λ (z : StoreView). IsFlushed z (view_of c.flush_due.new.self) s) ready flushed, c.append.ensures)
+
+pub returns-in-Some-clause-full_same : goal.returns-in-Some-clause-full_same
+returns-in-Some-clause-full_same g c = λ needed free is.
+    let v : StoreView = view_of c.args.self.now in
+    let ready : view_of c.commit_full.new.self ≡ readied v (item_cost (item_of c.args.item.now)) = c.in_ok-commit_full.ensures.ready ∙ ap (readied v) c.cost.ensures in
+    c.in_ok-flush_due.ensures.short c.in-Some.field-0 (ap Ok c.in-Some.is) ∙ ready
+
+pub returns-in_err-flush_due-clause-memory : goal.returns-in_err-flush_due-clause-memory
+returns-in_err-flush_due-clause-memory g c = λ none.
+    let v : StoreView = view_of c.args.self.now in
+    let ready : view_of c.commit_full.new.self ≡ readied v (item_cost (item_of c.args.item.now)) = c.in_ok-commit_full.ensures.ready ∙ ap (readied v) c.cost.ensures in
+    let was : IsErrOf c.from_residual-in_err-flush_due.result faults.NoMemory → IsErrOf c.flush_due.result faults.NoMemory = search rules in
+    not-false _ (λ due. absurd (let ok = (c.flush_due.ensures.not_due (subst (λ (z : StoreView). is_due z ≡ false) (sym ready) due)).0 in let err = was none in cc))
