@@ -8,7 +8,7 @@ use Rattle.lt_io.proofs.Flows.{Gains-none, Gains-more, GainsFront-more}
 use Rattle.lt_serve.specs.Serving.{GainsSome}
 use Rattle.lt_store.specs.Damage.{StopsGet, StopsOpening}
 use Rattle.lt_cli.specs.Promise.{FoundDamage}
-use Rattle.lt_cli.specs.Telling.{damage_line}
+use Rattle.lt_cli.specs.Telling.{Tells, damage_line}
 
 module _ (stands0 stands1 stands : List ℕ → Type 0) (faults0 faults1 faults : ℕ) (line shown : List ℕ) (gained : Gains stands0 stands1 shown) (later : faults0 ≤ faults1) where
   -- a front of the line was told behind what was shown
@@ -41,3 +41,14 @@ found-damage left0 left stands0 stands1 stands faults0 faults1 faults old new bl
   whole = told-whole stands0 stands1 stands faults0 faults1 faults (damage_line block) some.shown some.gained later r all cause;
   damaged = inr get;
 }
+
+-- where nothing was shown, the sink is given the line of the block
+pub tells-damage : (stands0 stands1 stands : List ℕ → Type 0) (faults0 faults1 faults : ℕ) (block b : ℕ) (r : Result (Unit {0}) Failed) → block ≡ b → stands1 ≡ stands0 → faults0 ≤ faults1
+    → OnOk r (Gains stands1 stands (damage_line block)) → OnErr r (GainsFront stands1 stands (damage_line block)) → HasCause faults1 faults r → Tells stands0 stands faults0 faults (damage_line b)
+tells-damage stands0 stands1 stands faults0 faults1 faults block b r same none later all front cause =
+    let gained : Gains stands0 stands1 [] = subst (λ (s : List ℕ → Type 0). Gains stands0 s []) (sym none) (Gains-none stands0) in
+    subst (λ (n : ℕ). Tells stands0 stands faults0 faults (damage_line n)) same
+    (record {
+      front = told-front stands0 stands1 stands faults0 faults1 faults (damage_line block) [] gained later r all front;
+      whole = told-whole stands0 stands1 stands faults0 faults1 faults (damage_line block) [] gained later r all cause;
+    })

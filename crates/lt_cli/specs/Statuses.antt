@@ -47,3 +47,10 @@ IsInitEnd DeviceFault = Unit {0}
 IsInitEnd Refused = Unit {0}
 IsInitEnd NoMemory = Unit {0}
 IsInitEnd status = ⊥
+
+-- what `run` may end with where the store does not open
+abbrev pub IsUnopenedEnd : Status → Type 0
+IsUnopenedEnd Damaged = Unit {0}
+IsUnopenedEnd DeviceFault = Unit {0}
+IsUnopenedEnd NoMemory = Unit {0}
+IsUnopenedEnd status = ⊥

@@ -27,6 +27,7 @@ abbrev pub Means : List (String Global) → Task → Type 0
 Means words Run = IsRun words
 Means words (Init extents levels slots) = IsInit words extents levels slots
 
+-- the words ask for this, or for nothing that there is
 abbrev pub MeansSome : List (String Global) → Option Task → Type 0
 MeansSome words (Some task) = Means words task
 MeansSome words None = (task : Task) → Means words task → ⊥

@@ -3,8 +3,11 @@ use Rattle.std.proofs.Common.{◌≡◌, ℕ, ◌+◌, ◌≤◌, refl, sym, ap,
 use Rattle.std.specs.Result.{IsErrAnd}
 use Rattle.std.proofs.lemmas.List.{take-append-le}
 use Rattle.std.proofs.Math.Seq.{take-length}
+use Rattle.lt_terms.specs.Bytes.{Image}
 use Rattle.lt_terms.specs.Causes.{Rose, HasCause}
+use Rattle.lt_terms.specs.Items.{Item}
 use Rattle.lt_page.specs.declared.errors.Failed.{Failed}
+use Rattle.lt_device.specs.Moments.{Leaves, MayLeave}
 use Rattle.lt_device.specs.State as told
 use Rattle.lt_io.specs.Sink.{Gains}
 use Rattle.lt_io.proofs.Flows.{Gains-none, Gains-more}
@@ -17,24 +20,46 @@ use Rattle.lt_language.specs.Machine.{State}
 use Rattle.lt_language.specs.Replies.{Reply, texts}
 use Rattle.lt_line.specs.Held.{kept_of}
 use Rattle.lt_line.specs.Waiting.{Waiting, nothing_waits}
-use Rattle.lt_store.specs.Open.{StoreView, IsOpen, Rests}
+use Rattle.lt_store.specs.Open.{StoreView, IsOpen, IsRooted, Rests}
 use Rattle.lt_store.proofs.GoLaws.{open-rests}
 use Rattle.lt_store.proofs.RootedLaws.{rooted-joins}
 use Rattle.lt_serve.specs.declared.faults.RoundFault.{RoundFault}
 use Rattle.lt_serve.specs.declared.faults.RoundFault.TheVariants as faults
 use Rattle.lt_serve.specs.declared.served.Served.{Served}
 use Rattle.lt_serve.specs.declared.served.Served.TheVariants as served
-use Rattle.lt_serve.specs.Faults.{IsLost, IsPause, IsHalt, IsSettled, served_of}
+use Rattle.lt_serve.specs.Faults.{IsLost, IsPause, IsHalt, IsInnerHalt, IsSettled, served_of}
 use Rattle.lt_serve.specs.Rounds.{Round, Stopped}
 use Rattle.lt_serve.specs.Runs.{Runs, ok_count, acknowledged}
 use Rattle.lt_serve.specs.Sending.{Sends}
-use Rattle.lt_serve.specs.Serving.{PieceStopped, Reached, Over, SteppedOn, SteppedOver}
+use Rattle.lt_serve.specs.Serving.{Reached, Over, SteppedOn, SteppedOver}
 use Rattle.lt_serve.proofs.LineLaws.{commands-append, rest_of-append}
 use Rattle.lt_serve.proofs.OverLaws.{since-more, open-has, rests-later, shows, lines-answered}
 use Rattle.lt_serve.proofs.RunLaws.{runs-more, runs-counts, ok_count-append, texts-append}
 use Rattle.lt_serve.proofs.ShownLaws.{acknowledged-append}
 
 -- ---- one round
+
+-- Serving stopped within the bytes: the sink took a front of the text of the replies `shown`, all of it where its count did not rise and it is not the cause.
+pub record PieceStopped (e : ℕ) (durable : State) (bytes : List ℕ) (status : Served) (stands0 stands : List ℕ → Type 0) (faults0 faults : ℕ) (old new : told.State) : Type 0 where
+  pub acted : List Command
+  pub others : List Command
+  pub order : acted ++ others ≡ commands bytes
+  pub shown : List Reply
+  pub hidden : List Reply
+  pub writes : List Item
+  pub runs : Runs e durable acted (shown ++ hidden) writes
+  pub output : List ℕ
+  pub behind : List ℕ
+  pub text : texts shown ≡ output ++ behind
+  pub gained : Gains stands0 stands output
+  pub halt : IsHalt status
+  pub whole : IsInnerHalt status → (Rose faults0 faults → ⊥) → behind ≡ []
+  pub since : Leaves (λ left. IsPrefix left durable writes 0) old new
+  -- each image since names the root alone
+  pub rooted : Leaves IsRooted old new
+  pub at_exit : (left : Image) → MayLeave new left → IsPrefix left durable writes (ok_count shown)
+  pub rests : status ≡ served.NoMemory → (sure : ℕ) × Rests (after_writes durable (take sure writes)) new
+  pub rests_all : IsSettled status → Rests (after_writes durable writes) new
 
 -- the settled text of a round is that of its replies
 told-text : (e : ℕ) (s : State) (bytes kept : List ℕ) (waiting : Waiting) (w : StoreView) (old new : told.State) (p : Round e s bytes kept nothing_waits waiting w old new) → waiting.settled_text ≡ texts p.replies

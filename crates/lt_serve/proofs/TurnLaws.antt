@@ -1,12 +1,13 @@
 -- A turn of the loop over the pieces of the source, and the end of input.
-use Rattle.std.proofs.Common.{◌≡◌, ℕ, zero, suc, ◌+◌, ◌≤◌, refl, sym, ap, subst, ◌∙◌, List, [], ◌∷◌, ◌++◌, length, take, drop, length-append, append-nil, take-append-drop, Option, Some, None, arith}
+use Rattle.std.proofs.Common.{◌≡◌, ℕ, zero, suc, ◌+◌, ◌≤◌, refl, sym, ap, subst, ◌∙◌, List, [], ◌∷◌, ◌++◌, length, take, drop, length-append, append-nil, take-append-drop, Option, Some, None, Result, Ok, Err, arith}
 use Rattle.std.proofs.Math.Seq.{take-length}
 use Rattle.lt_terms.specs.Causes.{RoseBy, next_count}
 use Rattle.lt_device.specs.State as told
 use Rattle.lt_device.proofs.Runs.{begins}
-use Rattle.lt_io.specs.Source.{Takes, IsAtEnd, IsFrontOf}
+use Rattle.lt_io.specs.Source.{Takes, IsAtEnd, IsFrontOf, pieces_after}
 use Rattle.lt_io.specs.Sink.{Gains}
 use Rattle.lt_io.proofs.Flows.{Takes-none, Takes-more, Gains-none}
+use Rattle.lt_image.specs.Opening.{open_image}
 use Rattle.lt_image.specs.Standing.{after_writes}
 use Rattle.lt_image.proofs.KeptLaws.{no_writes}
 use Rattle.lt_image.proofs.PrefixLaws.{prefix-none}
@@ -20,10 +21,12 @@ use Rattle.lt_line.specs.Waiting.{Waiting, all_settled, nothing_waits}
 use Rattle.lt_line.proofs.HeldLaws.{kept_of-none, kept_of-nothing}
 use Rattle.lt_layout.specs.declared.fault.OpenFault.{OpenFault}
 use Rattle.lt_layout.specs.declared.fault.OpenFault.TheVariants as opens
+use Rattle.lt_store.specs.Damage.{StopsOpening}
 use Rattle.lt_store.specs.Open.{StoreView, IsOpen, Rests}
 use Rattle.lt_store.proofs.RootedLaws.{rests-rooted, rooted-none}
 use Rattle.lt_serve.specs.declared.served.Served.{Served}
 use Rattle.lt_serve.specs.declared.served.Served.TheVariants as served
+use Rattle.lt_serve.specs.Damage.{FailsToOpen, IsUnopened}
 use Rattle.lt_serve.specs.Ends.{with_end}
 use Rattle.lt_serve.specs.Faults.{IsEnd, IsHalt, IsSound, unopened_of}
 use Rattle.lt_serve.specs.Runs.{acknowledged}
@@ -204,6 +207,11 @@ module _ (e : ℕ) (before : State) (kept : List ℕ) (w : StoreView) (left0 lef
 pub rose-more : (n start before now : ℕ) → RoseBy n start before → now ≡ next_count before → RoseBy (n + 1) start now
 rose-more n start before now rose is = omega arith
 
+-- a read takes one piece at most
+pub one-piece : (n before now : ℕ) → now ≡ pieces_after n before → now ≤ next_count before
+one-piece zero before now is = omega (arith, is)
+one-piece (suc n) before now is = omega (arith, is)
+
 -- ---- a store that was not opened
 
 -- what was not opened was not served
@@ -257,3 +265,22 @@ turned-unopened e before fault status left stands faults old new is same rests n
         over = record { added = []; gained = Gains-none stands; over = over-unopened e before (unopened_of fault) faults faults old rests };
       },
     ))
+
+-- opening that stops at two blocks stops at one
+names-one : {A : Type 0} (r : Result A ℕ) (a b : ℕ) → r ≡ Err a → r ≡ Err b → a ≡ b
+names-one (Ok x) a b first second = absurd (cc (first))
+names-one (Err e) a b first second = let one : e ≡ a = cc (first) in let two : e ≡ b = cc (second) in sym one ∙ two
+
+-- what opens stops at no block
+pub opens-whole : {A : Type 0} (r : Result A ℕ) (x : A) (b : ℕ) → r ≡ Ok x → r ≡ Err b → ⊥
+opens-whole (Ok y) x b opens stops = absurd (cc (stops))
+opens-whole (Err e) x b opens stops = absurd (cc (opens))
+
+unopened-names : (fault : OpenFault) (s : told.State) (b : ℕ) → ((block : ℕ) → fault ≡ opens.Damaged block → StopsOpening s block) → FailsToOpen s b → IsUnopened b (unopened_of fault)
+unopened-names opens.Device s b stops fails = tt
+unopened-names (opens.Damaged block) s b stops fails = names-one (open_image fails.image) block b (stops block refl fails.image fails.shown) fails.stops
+unopened-names opens.NoMemory s b stops fails = tt
+
+-- where opening stops at a block the answer is that block, or a fault
+pub unopened-named : (fault : OpenFault) (status : Served) (s : told.State) (b : ℕ) → status ≡ unopened_of fault → ((block : ℕ) → fault ≡ opens.Damaged block → StopsOpening s block) → FailsToOpen s b → IsUnopened b status
+unopened-named fault status s b is stops fails = subst (IsUnopened b) (sym is) (unopened-names fault s b stops fails)

@@ -8,17 +8,19 @@ use Rattle.lt_serve.specs.declared.faults.RoundFault.TheVariants as rounds
 use Rattle.lt_serve.specs.declared.served.Served.{Served}
 use Rattle.lt_serve.specs.declared.served.Served.TheVariants as served
 
--- the same fault
+-- the same fault, of a round
 abbrev pub round_fault_of : WriteFault → RoundFault
 round_fault_of writes.Device = rounds.Device
 round_fault_of (writes.Damaged block) = rounds.Damaged block
 round_fault_of writes.NoMemory = rounds.NoMemory
 
+-- what serving answers where a round failed so
 abbrev pub served_of : RoundFault → Served
 served_of rounds.Device = served.Device
 served_of (rounds.Damaged block) = served.Damaged block
 served_of rounds.NoMemory = served.NoMemory
 
+-- what serving answers where opening failed so
 abbrev pub unopened_of : OpenFault → Served
 unopened_of opens.Device = served.Device
 unopened_of (opens.Damaged block) = served.Damaged block
@@ -61,7 +63,7 @@ abbrev pub IsSound : Served → Type 0
 IsSound (served.Damaged block) = ⊥
 IsSound status = Unit {0}
 
--- what may end a round with its emission, the whole input, and a turn
+-- what may end a round with its emission
 abbrev pub IsStepEnd : Served → Type 0
 IsStepEnd served.Sink = Unit {0}
 IsStepEnd served.Device = Unit {0}
@@ -69,11 +71,13 @@ IsStepEnd (served.Damaged block) = Unit {0}
 IsStepEnd served.NoMemory = Unit {0}
 IsStepEnd status = ⊥
 
+-- what serving may end with at the end of input
 abbrev pub IsEnd : Served → Type 0
 IsEnd served.Done = Unit {0}
 IsEnd served.Sink = Unit {0}
 IsEnd status = ⊥
 
+-- what a turn may end serving with
 abbrev pub IsTurnEnd : Served → Type 0
 IsTurnEnd served.Turns = ⊥
 IsTurnEnd status = Unit {0}

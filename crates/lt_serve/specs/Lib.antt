@@ -1,4 +1,5 @@
 pub mod Acting
+pub mod Damage
 pub mod Ends
 pub mod Faults
 pub mod Idle

@@ -15,6 +15,7 @@ abbrev pub HasValue : Outcome → List ℕ → Type 0
 HasValue (outcomes.Value n) value = (length value ≡ n) × (n ≤ 3000)
 HasValue outcome value = Unit {0}
 
+-- the text of a reply, where there is one
 abbrev pub reply_text : Option Reply → List ℕ
 reply_text None = []
 reply_text (Some reply) = text reply

@@ -18,6 +18,7 @@ abbrev pub is_ok : Reply → Bool
 is_ok replies.ok = true
 is_ok reply = false
 
+-- how many of the replies are an `OK`
 abbrev pub ok_count : List Reply → ℕ
 ok_count replies = count_by is_ok replies
 

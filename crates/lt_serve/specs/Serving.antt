@@ -16,8 +16,8 @@ use Rattle.lt_line.specs.Held.{kept_of}
 use Rattle.lt_store.specs.Open.{StoreView, IsOpen, IsRooted, Rests}
 use Rattle.lt_serve.specs.declared.served.Served.{Served}
 use Rattle.lt_serve.specs.declared.served.Served.TheVariants as served
-use Rattle.lt_serve.specs.Faults.{IsPause, IsHalt, IsInnerHalt, IsSettled}
-use Rattle.lt_serve.specs.Runs.{Runs, ok_count, acknowledged}
+use Rattle.lt_serve.specs.Faults.{IsPause, IsInnerHalt, IsSettled}
+use Rattle.lt_serve.specs.Runs.{Runs, acknowledged}
 
 -- A store of e extents that stood for `before`: all lines of the input were acted, this is the text of their replies, and all writes that were taken are durable.
 pub record Reached (e : ℕ) (before : State) (input output kept : List ℕ) (w : StoreView) (old new : told.State) : Type 0 where
@@ -30,28 +30,6 @@ pub record Reached (e : ℕ) (before : State) (input output kept : List ℕ) (w 
   pub since : Leaves (λ left. IsPrefix left before writes 0) old new
   -- each image since names the root alone
   pub rooted : Leaves IsRooted old new
-
--- Serving stopped within the bytes: the sink took a front of the text of the replies `shown`, all of it where its count did not rise and it is not the cause.
-pub record PieceStopped (e : ℕ) (durable : State) (bytes : List ℕ) (status : Served) (stands0 stands : List ℕ → Type 0) (faults0 faults : ℕ) (old new : told.State) : Type 0 where
-  pub acted : List Command
-  pub others : List Command
-  pub order : acted ++ others ≡ commands bytes
-  pub shown : List Reply
-  pub hidden : List Reply
-  pub writes : List Item
-  pub runs : Runs e durable acted (shown ++ hidden) writes
-  pub output : List ℕ
-  pub behind : List ℕ
-  pub text : texts shown ≡ output ++ behind
-  pub gained : Gains stands0 stands output
-  pub halt : IsHalt status
-  pub whole : IsInnerHalt status → (Rose faults0 faults → ⊥) → behind ≡ []
-  pub since : Leaves (λ left. IsPrefix left durable writes 0) old new
-  -- each image since names the root alone
-  pub rooted : Leaves IsRooted old new
-  pub at_exit : (left : Image) → MayLeave new left → IsPrefix left durable writes (ok_count shown)
-  pub rests : status ≡ served.NoMemory → (sure : ℕ) × Rests (after_writes durable (take sure writes)) new
-  pub rests_all : IsSettled status → Rests (after_writes durable writes) new
 
 -- the text of so many first replies stands whole in the output
 pub record ShowsFirst (count : ℕ) (replies : List Reply) (output : List ℕ) : Type 0 where

@@ -1,11 +1,13 @@
 //! Opening a session, and what it says at the end of input.
 
+ghost use Rattle.std.specs.Option.{ForSome};
 ghost use Rattle.std.specs.Prelude.{◌≡◌, ℕ, ◌+◌, ◌*◌, ◌≤◌, true, [], IfOk, IsErrOf};
 ghost use Rattle.lt_terms.specs.Causes.{Rose};
 ghost use Rattle.lt_device.specs.Reads.{CountsAtMost};
 ghost use Rattle.lt_language.specs.Machine.{State};
 ghost use Rattle.lt_store.specs.Damage.{StopsOpening};
 ghost use Rattle.lt_store.specs.Open.{IsOpen, Rests, blocks_of, extents_of};
+ghost use Rattle.lt_store.specs.Reading.{Reads};
 ghost use Rattle.lt_serve.specs.Ends.{with_end};
 ghost use Rattle.lt_serve.specs.View.{kept_in, store_in};
 
@@ -25,6 +27,9 @@ impl Session {
         ensures up { IfOk result (λ session. session.is_up ≡ true) }
         ensures none { IfOk result (λ session. kept_in session ≡ []) }
         ensures room { IfOk result (λ session. blocks_of (store_in session) ≤ D.blocks device.new) }
+
+        // On a device that tells its blocks the store is what they open as.
+        ensures reads { IfOk result (λ session. ForSome (D.state device.old).shown (Reads (store_in session))) }
 
         // On a device at rest it is open for what the device stands for.
         ensures opened { IfOk result (λ session. (s : State) (r : Rests s (D.state device.old)) → IsOpen (store_in session) s (D.state device.new) × (extents_of (store_in session) ≡ r.rest.named.manifest.header.extents)) }

@@ -7,6 +7,7 @@ ghost use Rattle.lt_language.specs.Machine.{State};
 ghost use Rattle.lt_line.specs.Waiting.{nothing_waits};
 ghost use Rattle.lt_store.specs.Damage.{StopsGet, StopsOpening};
 ghost use Rattle.lt_store.specs.Open.{IsOpen, Rests, blocks_of, extents_of};
+ghost use Rattle.lt_serve.specs.Damage.{FailsToOpen, IsUnopened};
 ghost use Rattle.lt_serve.specs.Faults.{IsEnd, IsHalt, IsSound, IsStepEnd, IsTurnEnd};
 ghost use Rattle.lt_serve.specs.Serving.{GainsSome, Reached, SteppedOn, SteppedOver, TurnedOn, TurnedOver};
 ghost use Rattle.lt_serve.specs.View.{kept_in, store_in};
@@ -167,6 +168,7 @@ fn turn<S: Source, K: Sink, D: Device>(
     ensures size { D.blocks device.new ≡ D.blocks device.old }
     ensures end { IfErr result IsTurnEnd }
     ensures pieces { OnOk result (S.pieces source.new ≡ next_count (S.pieces source.old)) }
+    ensures one_piece { S.pieces source.new ≤ next_count (S.pieces source.old) }
     ensures damaged { (b : ℕ) → IsErrOf result (Served.Damaged b) → StopsGet (D.state device.new) b }
     ensures source_later { S.faults source.old ≤ S.faults source.new }
     ensures source_cause { IsErrOf result Served.Source → Rose (S.faults source.old) (S.faults source.new) }
@@ -202,6 +204,7 @@ fn serve_open<S: Source, K: Sink, D: Device>(
         → IsSound result × TurnedOver (extents_of (store_in session.old)) before result [] [] (S.left source.old) (S.left source.new) (K.stands sink.old) (K.stands sink.new) (K.faults sink.old) (K.faults sink.new) (D.state device.old) (D.state device.new) }
     ensures damaged { (b : ℕ) → result ≡ Served.Damaged b → StopsGet (D.state device.new) b }
     ensures turns { result ≡ Served.Turns → RoseBy (2 ^ 48) (S.pieces source.old) (S.pieces source.new) }
+    ensures pieces { S.pieces source.new ≤ S.pieces source.old + 2 ^ 48 }
     ensures source_later { S.faults source.old ≤ S.faults source.new }
     ensures source_cause { result ≡ Served.Source → Rose (S.faults source.old) (S.faults source.new) }
     ensures sink_gains { GainsSome (K.stands sink.old) (K.stands sink.new) }
@@ -249,7 +252,11 @@ pub fn serve<S: Source, K: Sink, D: Device>(
     // On any device a damaged block is one at which opening stops, and then nothing was read, written or answered, or one at which a get stops.
     ensures damaged { (b : ℕ) → result ≡ Served.Damaged b
         → (StopsOpening (D.state device.old) b × (D.state device.new ≡ D.state device.old) × (source.new ≡ source.old) × (sink.new ≡ sink.old)) ⊎ StopsGet (D.state device.new) b }
+    // And where opening stops at a block nothing is served: the answer is that block, or the device failed, or memory was short.
+    ensures unopened { (b : ℕ) → FailsToOpen (D.state device.old) b
+        → IsUnopened b result × (D.state device.new ≡ D.state device.old) × (source.new ≡ source.old) × (sink.new ≡ sink.old) }
     ensures turns { result ≡ Served.Turns → RoseBy (2 ^ 48) (S.pieces source.old) (S.pieces source.new) }
+    ensures pieces { S.pieces source.new ≤ S.pieces source.old + 2 ^ 48 }
     ensures source_later { S.faults source.old ≤ S.faults source.new }
     ensures source_cause { result ≡ Served.Source → Rose (S.faults source.old) (S.faults source.new) }
     ensures sink_gains { GainsSome (K.stands sink.old) (K.stands sink.new) }

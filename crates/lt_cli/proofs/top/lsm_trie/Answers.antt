@@ -27,6 +27,9 @@ returns-in-None-clause-init_end g c = λ e l s makes. c.in-None.ensures (Init e 
 pub returns-in-None-clause-small : goal.returns-in-None-clause-small
 returns-in-None-clause-small g c = λ e l s makes _. absurd (c.in-None.ensures (Init e l s) makes)
 
+pub returns-in-None-clause-unopened : goal.returns-in-None-clause-unopened
+returns-in-None-clause-unopened g c = λ runs b fails. absurd (c.in-None.ensures Run runs)
+
 -- ---- a store is made of the sizes that the words tell
 
 pub returns-in-Some-Init-clause-made : goal.returns-in-Some-Init-clause-made

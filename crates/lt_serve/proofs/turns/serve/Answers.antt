@@ -1,8 +1,9 @@
-use Rattle.std.proofs.Common.{ℕ, [], ap, subst, Err}
+use Rattle.std.proofs.Common.{ℕ, [], ap, refl, subst, Err}
 use Rattle.lt_device.specs.State as told
 use Rattle.lt_serve.specs.Faults.{IsSound}
 use Rattle.lt_serve.specs.Serving.{TurnedOver}
-use Rattle.lt_serve.proofs.TurnLaws.{turned-unopened}
+use Rattle.lt_serve.proofs.TurnLaws.{opens-whole, turned-unopened, unopened-named}
+use Rattle.lt_image.specs.Opening.{open_image}
 use Rattle.lt_serve.proofs.turns.serve.Goals as goal
 
 pub returns-in-Ok-clause-over : goal.returns-in-Ok-clause-over
@@ -15,3 +16,16 @@ returns-in-Ok-clause-over g c = λ before r.
 pub returns-in-Err-clause-over : goal.returns-in-Err-clause-over
 returns-in-Err-clause-over g c = λ before r.
     turned-unopened _ before c.in-Err.fault c.unopened_of.result _ _ _ _ _ c.unopened_of.ensures c.in-Err.ensures.state r (λ block is. c.in-Err.ensures.at_rest before r block (ap Err is))
+
+pub returns-in-Ok-clause-unopened : goal.returns-in-Ok-clause-unopened
+returns-in-Ok-clause-unopened g c = λ b fails.
+    let r = c.in-Ok.ensures.reads fails.image fails.shown in
+    absurd (opens-whole (open_image fails.image) r.opened b r.opens fails.stops)
+
+pub returns-in-Err-clause-unopened : goal.returns-in-Err-clause-unopened
+returns-in-Err-clause-unopened g c = λ b fails. (
+    unopened-named c.in-Err.fault c.unopened_of.result _ b c.unopened_of.ensures (λ block is. c.in-Err.ensures.damaged block (ap Err is)) fails,
+    c.in-Err.ensures.state,
+    refl,
+    refl,
+  )

@@ -20,6 +20,7 @@ loop-number-init g c = record {
   sink_later = omega arith;
   sink_gains = gains_some-none _;
   device_later = omega arith;
+  most = omega arith;
   pieces = omega arith;
   on = λ before opened. turned-none _ before _ _ _ _ _ c.requires.none opened;
 }
@@ -44,6 +45,7 @@ loop-number-preserved g c =
       sink_later = omega (arith, so_far.sink_later, turn.sink_later);
       sink_gains = gains_some-more _ _ _ so_far.sink_gains turn.sink_gains;
       device_later = omega (arith, so_far.device_later, turn.device_later);
+      most = omega (arith, so_far.most, turn.one_piece);
       pieces = rose-more c.loop-number.number _ _ _ so_far.pieces turn.pieces;
       on = λ before opened.
           let t = so_far.on before opened in

@@ -1,4 +1,4 @@
-use Rattle.std.proofs.Common.{◌≡◌, ◌≤◌, [], true}
+use Rattle.std.proofs.Common.{◌≡◌, ◌+◌, ◌≤◌, [], true}
 use Rattle.lt_terms.specs.Causes.{RoseBy}
 use Rattle.lt_language.specs.Machine.{State}
 use Rattle.lt_line.specs.Waiting.{nothing_waits}
@@ -17,6 +17,7 @@ invariant-loop-number g l = record {
   source_later : g.S.Source.faults l.fn.source ≤ g.S.Source.faults l.source;
   sink_later : g.K.Sink.faults l.fn.sink ≤ g.K.Sink.faults l.sink;
   device_later : g.D.Device.faults l.fn.device ≤ g.D.Device.faults l.device;
+  most : g.S.Source.pieces l.source ≤ g.S.Source.pieces l.fn.source + l.number;
   pieces : RoseBy l.number (g.S.Source.pieces l.fn.source) (g.S.Source.pieces l.source);
   sink_gains : GainsSome (g.K.Sink.stands l.fn.sink) (g.K.Sink.stands l.sink);
   on : (before : State) → IsOpen (store_in l.fn.session) before (g.D.Device.state l.fn.device)

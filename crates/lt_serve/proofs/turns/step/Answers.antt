@@ -5,11 +5,10 @@ use Rattle.lt_language.proofs.LineLaws.{lines_split}
 use Rattle.lt_serve.specs.declared.served.Served.{Served}
 use Rattle.lt_serve.specs.declared.served.Served.TheVariants as served
 use Rattle.lt_serve.specs.Rounds.{Stopped, all_text}
-use Rattle.lt_serve.specs.Serving.{PieceStopped}
 use Rattle.lt_serve.specs.View.{store_in}
 use Rattle.lt_store.specs.Open.{extents_of}
 use Rattle.lt_serve.proofs.LineLaws.{taken-and-rest}
-use Rattle.lt_serve.proofs.PieceLaws.{piece-untold, piece-stopped, stepped-on, stepped-over}
+use Rattle.lt_serve.proofs.PieceLaws.{PieceStopped, piece-untold, piece-stopped, stepped-on, stepped-over}
 use Rattle.lt_serve.proofs.SendLaws.{sends-empties}
 use Rattle.lt_serve.proofs.turns.step.Goals as goal
 
