@@ -24,8 +24,8 @@ returns-in-Ok-clause-unopened g c = λ b fails.
 
 pub returns-in-Err-clause-unopened : goal.returns-in-Err-clause-unopened
 returns-in-Err-clause-unopened g c = λ b fails. (
-    unopened-named c.in-Err.fault c.unopened_of.result _ b c.unopened_of.ensures (λ block is. c.in-Err.ensures.damaged block (ap Err is)) fails,
-    c.in-Err.ensures.state,
-    refl,
-    refl,
-  )
+  unopened-named c.in-Err.fault c.unopened_of.result _ b c.unopened_of.ensures (λ block is. c.in-Err.ensures.damaged block (ap Err is)) fails,
+  c.in-Err.ensures.state,
+  refl,
+  refl,
+)
