@@ -1,14 +1,16 @@
--- Reading a snapshot looks at the bytes below its length alone, and so at the blocks of its area.
+-- Reading a snapshot looks at the bytes below its length alone, and so at the blocks of its area; reading a log looks at the blocks of its slots alone.
 use Rattle.std.proofs.Common.{◌≡◌, ℕ, zero, suc, ◌+◌, ◌-◌, ◌*◌, ◌/◌, ◌%◌, ◌^◌, ◌<◌, ◌≤◌, refl, sym, ap, subst, ◌∙◌, cond, List, [], ◌∷◌, ◌++◌, length, map, Bool, true, false, ◌&&◌, not, Option, Some, None, Result, Ok, Err, arith}
 use Rattle.std.specs.Prelude.{◌==◌, nat_le, nat_lt, slice_index}
 use Rattle.std.specs.Int.{Width, w8, w16, w32, w64, byte_len, from_be_bytes}
 use Rattle.std.specs.List.{range_with_len}
 use Rattle.std.proofs.lemmas.Bool.{and_parts, leb-true}
 use Rattle.lt_terms.specs.Bytes.{Image, block_at, block_len}
+use Rattle.lt_terms.specs.Items.{Item}
 use Rattle.lt_tables.specs.Filter.{is_in}
 use Rattle.lt_format.specs.declared.geometry.Geometry.{Geometry}
 use Rattle.lt_format.specs.declared.node_id.NodeId.{NodeId}
-use Rattle.lt_format.specs.Layout.{area_block, snapshot_blocks, selected, selector_block, geometry_of, blocks_needed}
+use Rattle.lt_format.specs.Layout.{area_block, snapshot_blocks, selected, selector_block, geometry_of, blocks_needed, is_open, log_gate, log_content, first_open, closed_from}
+use Rattle.lt_format.specs.Log.{group_on, with_group, read_with, log_from}
 use Rattle.lt_format.specs.Trie.{Node, Trie, groups_for}
 use Rattle.lt_format.specs.Snapshot.{Manifest, Front, ◌>>=◌, number_in, field, extents_at, node_read, nodes_read, front_read, snapshot_read, snapshot_in, area_byte, as_block, extents_stand, is_zero, always, follows, id_of, extents_of, total_offset}
 use Rattle.lt_format.specs.Naming.{Named, geometry_in, manifest_in, manifest_of, roomy}
@@ -194,3 +196,27 @@ manifest-local image left size same =
     let small : a < 2 = selected-small (block_at image selector_block) in
     let snapshot = λ (g : Geometry). ap (λ block. snapshot_in g left (selected block)) selector ∙ snapshot-local g image left a size (λ n low. same (area_block a + n) (omega arith)) in
     λ i. roomy (size i) (geometry_of (first i)) >>= (λ g. snapshot g i >>= (λ manifest. Ok (record { geometry = g; area = selected (selector i); manifest = manifest })))
+
+-- ---- the log
+
+-- a block at a number is the same in both images
+abbrev pub SameBlock : Image → Image → ℕ → Type 0
+SameBlock old new n = block_at new n ≡ block_at old n
+
+pub first_open-same : (old new : Image) (gate : ℕ → ℕ) (i n : ℕ) → ((k : ℕ) → i ≤ k → k < i + n → SameBlock old new (gate k)) → first_open new gate i n ≡ first_open old gate i n
+unfolding first_open
+first_open-same old new gate i zero same = refl
+first_open-same old new gate i (suc n) same =
+    let here : SameBlock old new (gate i) = same i (omega arith) (omega arith) in
+    let rest : first_open new gate (i + 1) n ≡ first_open old gate (i + 1) n = first_open-same old new gate (i + 1) n (λ k low high. same k (omega arith) (omega arith)) in
+    λ j. cond (is_open (here j)) (Option.Some (gate i)) (rest j)
+
+pub log_from-same : (g : Geometry) (old new : Image) (b writes i n : ℕ) (groups : List (List Item)) → ((k : ℕ) → i ≤ k → k < i + n → SameBlock old new (log_gate g b k) × SameBlock old new (log_content g b k)) → log_from g new b writes i n groups ≡ log_from g old b writes i n groups
+unfolding log_from
+log_from-same g old new b writes i zero groups same = refl
+log_from-same g old new b writes i (suc n) groups same =
+    let here = same i (omega arith) (omega arith) in
+    let first : first_open new (log_gate g b) (i + 1) n ≡ first_open old (log_gate g b) (i + 1) n = first_open-same old new (log_gate g b) (i + 1) n (λ k low high. (same k (omega arith) (omega arith)).0) in
+    λ j. cond (is_open (here.0 j))
+    (read_with (with_group writes groups (group_on (here.1 j))) (log_content g b i) (λ more. log_from-same g old new b writes (i + 1) n more (λ k low high. same k (omega arith) (omega arith)) j))
+    (closed_from (first j) groups)

@@ -90,10 +90,11 @@ times-apart before (y ∷ ys) h x = by_head (y == x) refl (times-apart before ys
 
 -- ---- distinct numbers below n are at most n
 
-abbrev without : ℕ → List ℕ → List ℕ
+-- the numbers but one
+abbrev pub without : ℕ → List ℕ → List ℕ
 without n xs = filter (λ x. not (x == n)) xs
 
-length-without : (n : ℕ) (xs : List ℕ) → length xs ≡ length (without n xs) + times n xs
+pub length-without : (n : ℕ) (xs : List ℕ) → length xs ≡ length (without n xs) + times n xs
 length-without n [] = refl
 length-without n (y ∷ ys) = by_head (y == n) (length-without n ys)
   where

@@ -15,7 +15,7 @@ use Rattle.lt_format.specs.Log.{group_on, with_group, read_with, log_from, log_g
 use Rattle.lt_format.specs.Snapshot.{◌>>=◌}
 use Rattle.lt_format.specs.Naming.{Named, manifest_of}
 use Rattle.lt_format.specs.Trie.{named}
-use Rattle.lt_format.proofs.LocalLaws.{manifest-local}
+use Rattle.lt_format.proofs.LocalLaws.{manifest-local, SameBlock, log_from-same}
 use Rattle.lt_format.proofs.ReadLaws.{ok_same, manifest_of-named}
 use Rattle.lt_image.specs.Opening.{Opened, open_image}
 use Rattle.lt_image.specs.Standing.{Stands, is_free_block}
@@ -25,29 +25,7 @@ use Rattle.lt_image.proofs.KeptLaws.{log-same}
 
 -- ---- the log
 
--- a block at a number is the same in both images
-abbrev Same : Image → Image → ℕ → Type 0
-Same old new n = block_at new n ≡ block_at old n
-
-first_open-same : (old new : Image) (gate : ℕ → ℕ) (i n : ℕ) → ((k : ℕ) → i ≤ k → k < i + n → Same old new (gate k)) → first_open new gate i n ≡ first_open old gate i n
-unfolding first_open
-first_open-same old new gate i zero same = refl
-first_open-same old new gate i (suc n) same =
-    let here : Same old new (gate i) = same i (omega arith) (omega arith) in
-    let rest : first_open new gate (i + 1) n ≡ first_open old gate (i + 1) n = first_open-same old new gate (i + 1) n (λ k low high. same k (omega arith) (omega arith)) in
-    λ j. cond (is_open (here j)) (Option.Some (gate i)) (rest j)
-
-log_from-same : (g : Geometry) (old new : Image) (b writes i n : ℕ) (groups : List (List Item)) → ((k : ℕ) → i ≤ k → k < i + n → Same old new (log_gate g b k) × Same old new (log_content g b k)) → log_from g new b writes i n groups ≡ log_from g old b writes i n groups
-unfolding log_from
-log_from-same g old new b writes i zero groups same = refl
-log_from-same g old new b writes i (suc n) groups same =
-    let here = same i (omega arith) (omega arith) in
-    let first : first_open new (log_gate g b) (i + 1) n ≡ first_open old (log_gate g b) (i + 1) n = first_open-same old new (log_gate g b) (i + 1) n (λ k low high. (same k (omega arith) (omega arith)).0) in
-    λ j. cond (is_open (here.0 j))
-    (read_with (with_group writes groups (group_on (here.1 j))) (log_content g b i) (λ more. log_from-same g old new b writes (i + 1) n more (λ k low high. same k (omega arith) (omega arith)) j))
-    (closed_from (first j) groups)
-
-log-slots : (m : Named) (old new : Image) → SameNamed m old new → (k : ℕ) → k < 0 + m.geometry.slots → Same old new (log_gate m.geometry m.manifest.header.log_area k) × Same old new (log_content m.geometry m.manifest.header.log_area k)
+log-slots : (m : Named) (old new : Image) → SameNamed m old new → (k : ℕ) → k < 0 + m.geometry.slots → SameBlock old new (log_gate m.geometry m.manifest.header.log_area k) × SameBlock old new (log_content m.geometry m.manifest.header.log_area k)
 log-slots m old new s k small = (s.log (log_gate m.geometry m.manifest.header.log_area k) (omega arith) (omega arith), s.log (log_content m.geometry m.manifest.header.log_area k) (omega arith) (omega arith))
 
 pub open-same : (old new : Image) (m : Named) → manifest_of old ≡ Ok m → manifest_of new ≡ Ok m → SameNamed m old new → open_image new ≡ open_image old

@@ -9,10 +9,11 @@ use Rattle.lt_mem.specs.declared.table.Place.{Place}
 abbrev pub table_room : ℕ
 table_room = 204092
 
--- the items that put and delete put in
+-- the item that a put puts in
 abbrev pub put_of : List ℕ → List ℕ → Item
 put_of key value = record { kind = Put; key = key; value = value }
 
+-- the item that a delete puts in
 abbrev pub delete_of : List ℕ → Item
 delete_of key = record { kind = Delete; key = key; value = [] }
 

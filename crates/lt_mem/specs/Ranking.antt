@@ -17,6 +17,7 @@ pub record IsRankOf (key : List ℕ) (rank : Rank) : Type 0 where
 abbrev pub shown : Rank × ItemView → List ℕ × Item
 shown entry = (entry.0.key.now, item_of entry.1)
 
+-- the same of all of them
 abbrev pub ranked_entries : List (Rank × ItemView) → List (List ℕ × Item)
 ranked_entries entries = map shown entries
 
@@ -25,5 +26,6 @@ pub record IsRanked (entry : Rank × ItemView) : Type 0 where
   pub rank : IsRankOf entry.0.key.now entry.0
   pub valid : IsTrue (is_valid (item_of entry.1))
 
+-- each of them is so
 abbrev pub AreRanked : List (Rank × ItemView) → Type 0
 AreRanked entries = AllByRecursion IsRanked entries

@@ -22,6 +22,7 @@ pub record WouldStandAt (nodes : Trie) (id : NodeId) (i : ℕ) : Type 0 where
   pub put : (n : Node) → put node_cmp id n nodes ≡ insert nodes i (id, n)
   pub gone : where_key node_cmp (λ q. not (same_node id q)) nodes ≡ nodes
 
+-- the node stands at the place, where that is Ok, and would stand at it else
 abbrev pub IsPlace : Trie → NodeId → Result ℕ ℕ → Type 0
 IsPlace nodes id (Ok i) = StandsAt nodes id i
 IsPlace nodes id (Err i) = WouldStandAt nodes id i

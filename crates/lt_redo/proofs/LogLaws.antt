@@ -9,6 +9,7 @@ use Rattle.lt_device.specs.Image.{SameOutside}
 use Rattle.lt_format.specs.declared.geometry.Geometry.{Geometry}
 use Rattle.lt_format.specs.Layout.{is_open, log_gate, log_content, first_open, closed_from}
 use Rattle.lt_format.specs.Log.{log_from, with_group, read_with, group_on, log_fits, items_in}
+use Rattle.lt_format.proofs.LocalLaws.{first_open-same}
 use Rattle.lt_redo.specs.Slots.{InSlot, HasLog, HasLogOrLonger, MayFollow}
 
 -- all slots but this one have the same blocks
@@ -21,14 +22,6 @@ OutsideSlot-from_same g b slot image left same = record {
   gates = λ k other. same.others (log_gate g b k) (λ in_slot. elim in_slot [ inl gate ↦ other (omega arith) | inr content ↦ absurd (omega arith) ]);
   contents = λ k other. same.others (log_content g b k) (λ in_slot. elim in_slot [ inl gate ↦ absurd (omega arith) | inr content ↦ other (omega arith) ]);
 }
-
--- gates behind the slot are as before
-pub first_open-same : (g : Geometry) (b slot : ℕ) (image left : Image) → OutsideSlot g b slot image left → (i n : ℕ) → slot < i → first_open left (log_gate g b) i n ≡ first_open image (log_gate g b) i n
-unfolding first_open
-first_open-same g b slot image left same i zero behind = refl
-first_open-same g b slot image left same i (suc n) behind =
-    let gate : block_at left (log_gate g b i) ≡ block_at image (log_gate g b i) = same.gates i (omega arith) in
-    rw (gate, first_open-same g b slot image left same (i + 1) n (omega arith)) refl
 
 ok_err : {A : Type 0} (x : A) (e : ℕ) → Err e ≡ Ok x → ⊥
 ok_err x e h = cc
@@ -97,10 +90,10 @@ at_end : (g : Geometry) (image left : Image) (b writes i n : ℕ) (all : List (L
     → first_open image (log_gate g b) (i + 1) n ≡ None → log_from g left b writes i (suc n) all ≡ Ok (with_slot opened all group)
 unfolding log_from
 at_end g image left b writes i n all group true same next closed =
-    let behind : first_open left (log_gate g b) (i + 1) n ≡ None = first_open-same g b i image left same (i + 1) n (omega arith) ∙ closed in
+    let behind : first_open left (log_gate g b) (i + 1) n ≡ None = first_open-same image left (log_gate g b) (i + 1) n (λ k low high. same.gates k (omega arith)) ∙ closed in
     rw (next.gate, next.spelled refl, next.fits refl) (log_from-closed g left b writes (i + 1) n (all ++ group ∷ []) behind)
 at_end g image left b writes i n all group false same next closed =
-    let behind : first_open left (log_gate g b) (i + 1) n ≡ None = first_open-same g b i image left same (i + 1) n (omega arith) ∙ closed in
+    let behind : first_open left (log_gate g b) (i + 1) n ≡ None = first_open-same image left (log_gate g b) (i + 1) n (λ k low high. same.gates k (omega arith)) ∙ closed in
     rw (next.gate, behind) refl
 
 -- a log whose next slot alone has changed
