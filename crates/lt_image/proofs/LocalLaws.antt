@@ -1,17 +1,15 @@
 -- What an image stands for rests on the blocks that its manifest names.
-use Rattle.std.proofs.Common.{◌≡◌, length, ℕ, zero, suc, ◌+◌, ◌*◌, ◌/◌, ◌-◌, ◌<◌, ◌≤◌, refl, sym, ap, subst, ◌∙◌, List, [], true, false, not, cond, ◌&&◌, Option, Result, Ok, arith}
+use Rattle.std.proofs.Common.{◌≡◌, length, ℕ, zero, suc, ◌+◌, ◌*◌, ◌/◌, ◌-◌, ◌<◌, ◌≤◌, refl, sym, ap, subst, ◌∙◌, [], true, false, not, ◌&&◌, Result, Ok, arith}
 use Rattle.std.specs.Prelude.{IsFalse, nat_le, nat_lt}
 use Rattle.lt_terms.specs.Bytes.{Image, block_at}
-use Rattle.lt_terms.specs.Items.{Item}
 use Rattle.lt_language.specs.Machine.{State}
 use Rattle.std.proofs.lemmas.Bool.{lt-leb, le-leb, lt-ltb, leb-true, ltb-true, and_parts, and_from, not-true, not_from_false}
 use Rattle.std.proofs.Math.Bool.{and-false}
 use Rattle.lt_tables.specs.Filter.{is_in}
 use Rattle.lt_tables.proofs.CoverLaws.{within_itself}
 use Rattle.lt_tables.proofs.FitLaws.{all_weaker}
-use Rattle.lt_format.specs.declared.geometry.Geometry.{Geometry}
-use Rattle.lt_format.specs.Layout.{selected, selector_block, is_open, log_gate, log_content, first_open, closed_from, extent_block, extent_blocks}
-use Rattle.lt_format.specs.Log.{group_on, with_group, read_with, log_from, log_groups}
+use Rattle.lt_format.specs.Layout.{log_gate, log_content, extent_block, extent_blocks}
+use Rattle.lt_format.specs.Log.{log_groups}
 use Rattle.lt_format.specs.Snapshot.{◌>>=◌}
 use Rattle.lt_format.specs.Naming.{Named, manifest_of}
 use Rattle.lt_format.specs.Trie.{named}
