@@ -30,7 +30,7 @@ same_slots g (suc zero) image left area same = record {
 same_slots g (suc (suc b)) image left area same = absurd (omega arith)
 
 same-log : (g : Geometry) (b writes : ℕ) (groups : List (List Item)) (image left : Image) → SameSlots g b image left → HasLog g b writes groups image → HasLog g b writes groups left
-same-log g b writes groups image left same has = record { read = log_from-same g image left b writes 0 g.slots _ (λ k low high. (same.gates k high, same.contents k high)) ∙ has.read }
+same-log g b writes groups image left same has = record { read = log_from-same g image left b writes 0 g.slots _ (λ k low high. (same.gates k (omega arith), same.contents k (omega arith))) ∙ has.read }
 
 -- a log is told by the blocks of its area
 pub has_log-local : (g : Geometry) (b writes : ℕ) (groups : List (List Item)) (image left : Image) → ((n : ℕ) → InLogArea g b n → block_at left n ≡ block_at image n) → HasLog g b writes groups image → HasLog g b writes groups left
