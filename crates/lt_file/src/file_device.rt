@@ -108,7 +108,7 @@ impl Device for FileDevice {
 }
 
 /// Reads a block at its offset, with zeros past the file's end.
-fn read_block(file: &File, block: u64, into: &mut Page) -> io::Result<()>
+pub(super) fn read_block<F: FileExt>(file: &F, block: u64, into: &mut Page) -> io::Result<()>
     requires { block < 2 ^ 24 }
 {
     let mut bytes = [0; Page::LEN];

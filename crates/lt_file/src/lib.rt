@@ -1,5 +1,5 @@
-//! The edge to the system: a file as a device, a reader as a source and a writer as a sink. They tell no
-//! content, since no clause says what the system keeps, hands over or takes.
+//! The edge to the system: a file as a device, a reader as a source and a writer as a sink. A file tells
+//! no content. A reader and a writer may tell theirs, but the system's tell none.
 #![tactic(auto)]
 
 mod counts;

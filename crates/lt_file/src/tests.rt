@@ -1,8 +1,10 @@
+use super::file_device::read_block;
 use super::*;
 use lt_device::Device;
 use lt_io::{Sink, Source};
 use lt_page::{Failed, Page};
 use std::fs::{File, OpenOptions};
+use std::os::unix::fs::FileExt;
 use std::rt::Files;
 use std::test::Fail;
 use std::{fs, io};
@@ -48,6 +50,42 @@ fn a_file_keeps_blocks_and_has_zeros_past_its_end(rt: HostRuntime) -> Result<(),
     }
     assert_eq!(rt; device.reads(), 6);
     fs::remove_file(&rt, "lt_file_device")?;
+    Ok(())
+}
+
+/// A file that hands over at most 1,000 bytes a call.
+#[derive(Drop)]
+struct Slow<'a> {
+    bytes: &'a [u8],
+}
+
+impl FileExt for Slow<'_> {
+    fn read_at(&self, buf: &mut [u8], offset: u64) -> io::Result<usize> {
+        let rest = self.bytes.get(offset as usize..).unwrap_or(&[]);
+        let count = rest.len().min(buf.len()).min(1000);
+        buf[..count].copy_from_slice(&rest[..count]);
+        Ok(count)
+    }
+
+    fn write_at(&self, _: &[u8], _: u64) -> io::Result<usize> {
+        Ok(0)
+    }
+}
+
+#[test]
+fn a_block_is_read_to_its_end(rt: HostRuntime) -> Result<(), Fail> {
+    let mut bytes = [0; 6596];
+    for at in 0..6596 {
+        bytes[at] = (at % 251) as u8 + 1;
+    }
+    let file = Slow { bytes: &bytes };
+    let mut page = Page::new(rt.alloc())?;
+    read_block(&file, 0, &mut page)?;
+    assert_eq!(rt; page.bytes(), &bytes[..4096]);
+    read_block(&file, 1, &mut page)?;
+    let (read, rest) = page.bytes().split_at(2500);
+    assert_eq!(rt; read, &bytes[4096..]);
+    assert!(rt; rest.iter().all(|byte| *byte == 0));
     Ok(())
 }
 
