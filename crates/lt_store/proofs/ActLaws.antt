@@ -5,6 +5,7 @@ use Rattle.lt_terms.specs.Items.{Item}
 use Rattle.lt_device.specs.State as told
 use Rattle.lt_device.specs.Moments.{Leaves}
 use Rattle.lt_language.specs.Commands as commands
+use Rattle.lt_language.specs.Commands.{Command}
 use Rattle.lt_language.specs.Machine.{State, most_writes, put_of, delete_of}
 use Rattle.lt_image.specs.Standing.{after_writes}
 use Rattle.lt_store.specs.declared.acting.Outcome.{Outcome}
@@ -14,7 +15,11 @@ use Rattle.lt_store.specs.declared.faults.WriteFault.{WriteFault}
 use Rattle.lt_store.specs.declared.faults.WriteFault.TheVariants.{Device, Damaged, NoMemory}
 use Rattle.lt_store.specs.declared.writing.Taken.{Taken}
 use Rattle.lt_store.specs.declared.writing.Taken.TheVariants as taken
-use Rattle.lt_store.specs.Acting.{IsStep, reply_of}
+use Rattle.lt_htable.specs.declared.faults.LookFault.{LookFault}
+use Rattle.lt_htable.specs.declared.faults.LookFault.TheVariants as looks
+use Rattle.lt_store.specs.Acting.{IsStep, TellsSeen, reply_of}
+use Rattle.lt_store.specs.Faults.{IsLookFault}
+use Rattle.lt_store.specs.Getting.{AnswersSeen}
 use Rattle.lt_store.specs.Going.{Goes}
 use Rattle.lt_store.specs.Open.{StoreView, IsOpen, IsRooted}
 use Rattle.lt_store.specs.Taking.{accepted_by}
@@ -75,6 +80,16 @@ module _ (up : Bool) (result : Result Taken WriteFault) (fault : WriteFault) (wa
       by_fault Device w = broken w
       by_fault (Damaged b) w = absurd (undamaged b w)
       by_fault NoMemory w = refused w
+
+-- ---- what a get's event sees
+
+-- the key of a get
+pub same-key : (a b : List ℕ) → ◌≡◌ {A = Option Command} (Some (commands.get a)) (Some (commands.get b)) → a ≡ b
+same-key a b h = cc
+
+pub tells-fault : (page : List ℕ) (answer : Result (Option Item) LookFault) (fault : LookFault) (told : WriteFault) → IsLookFault fault told → AnswersSeen page answer (Err fault) → TellsSeen page answer (Err told)
+tells-fault page answer looks.Device told is h = subst (λ (f : WriteFault). TellsSeen page answer (Err f)) (sym is) tt
+tells-fault page answer (looks.Damaged b) told is h = subst (λ (f : WriteFault). TellsSeen page answer (Err f)) (sym is) h
 
 -- ---- answers within others
 

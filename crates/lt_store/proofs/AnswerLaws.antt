@@ -50,7 +50,7 @@ finds_put : (value old : List ℕ) (b : Bool) → Finds (cond b (with_value old 
 finds_put value old true = (refl, take_at value _ (length value) refl)
 finds_put value old false = tt
 
-finds : (item : Option Item) (version : Option Version) (old new : List ℕ) → IsVersion item version old new → Finds new (value_of item) (value_len version)
+pub finds : (item : Option Item) (version : Option Version) (old new : List ℕ) → IsVersion item version old new → Finds new (value_of item) (value_len version)
 finds None None old new is = tt
 finds None (Some w) old new is = absurd is
 finds (Some v) None old new is = absurd is

@@ -2,7 +2,7 @@
 use Rattle.std.proofs.Common.{◌≡◌, ◌≢◌, ℕ, zero, suc, ◌+◌, ◌*◌, ◌<◌, ◌≤◌, refl, sym, ap, subst, ◌∙◌, List, [], ◌∷◌, ◌++◌, length, map, drop, Bool, true, false, not, ◌&&◌, ◌||◌, cond, Some, Ok, arith, append-nil, length-append, ⊎_elim}
 use Rattle.std.specs.Prelude.{IsTrue, ◌==◌, nat_le, nat_lt}
 use Rattle.std.specs.FinMap.{find}
-use Rattle.std.specs.List.{AllByRecursion, filter, flat_map, enumerate_from}
+use Rattle.std.specs.List.{AllByRecursion, flat_map, enumerate_from}
 use Rattle.std.specs.Option.{unwrap_or}
 use Rattle.std.proofs.lemmas.Bool.{and_parts, leb-true, eqb-true, eqb-false, ne_eqb, not-false, true≢false, cases_lt}
 use Rattle.std.proofs.lemmas.List.{length-map}
@@ -24,7 +24,7 @@ use Rattle.lt_format.specs.Layout.{extent_block}
 use Rattle.lt_format.specs.Log.{items_in}
 use Rattle.lt_format.specs.Naming.{Named}
 use Rattle.lt_format.specs.Trie.{Node, Trie, root, node_cmp, same_node, node_at, named, empty_node, table_total as tables_in}
-use Rattle.lt_format.proofs.Numbers.{times, absent-times}
+use Rattle.lt_format.proofs.Numbers.{times, absent-times, without, length-without}
 use Rattle.lt_format.proofs.TrieLaws.{same_node-same}
 use Rattle.lt_redo.specs.LogState.{LogState}
 use Rattle.lt_redo.specs.Slots.{HasLog}
@@ -62,18 +62,6 @@ due-some n log memory taken filters writes k due =
     decide false full much = costly memory much
 
 -- ---- what is free and what is named are all extents
-
--- the numbers but one
-abbrev without : ℕ → List ℕ → List ℕ
-without n xs = filter (λ x. not (x == n)) xs
-
-length-without : (n : ℕ) (xs : List ℕ) → length xs ≡ length (without n xs) + times n xs
-length-without n [] = refl
-length-without n (y ∷ ys) = by_head (y == n) (length-without n ys)
-  where
-    by_head : (b : Bool) → length ys ≡ length (without n ys) + times n ys → suc (length ys) ≡ length (cond (not b) (y ∷ without n ys) (without n ys)) + (cond b 1 0 + times n ys)
-    by_head true e = omega arith
-    by_head false e = omega arith
 
 others-stay : (n x : ℕ) (xs : List ℕ) → x ≢ n → times x xs ≤ times x (without n xs)
 others-stay n x [] differ = omega arith

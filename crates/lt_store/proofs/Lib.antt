@@ -23,4 +23,5 @@ pub mod PrepareLaws
 pub mod ReserveLaws
 pub mod RootedLaws
 pub mod SameLaws
+pub mod SeenLaws
 pub mod TakeLaws

@@ -1,5 +1,5 @@
 -- Events of a store, and the steps of the map machine that they are.
-use Rattle.std.specs.Prelude.{◌≡◌, ℕ, Bool, true, false, List, [], take, Option, Some, None, Result, Ok, IsTrue}
+use Rattle.std.specs.Prelude.{◌≡◌, ℕ, Bool, true, false, List, [], take, Option, Some, None, Result, Ok, Err, IsTrue}
 use Rattle.lt_terms.specs.Items.{Item, is_key, is_valid}
 use Rattle.lt_language.specs.Commands as commands
 use Rattle.lt_language.specs.Commands.{Command}
@@ -11,8 +11,11 @@ use Rattle.lt_store.specs.declared.acting.EventView.TheVariants as events
 use Rattle.lt_store.specs.declared.acting.Outcome.{Outcome}
 use Rattle.lt_store.specs.declared.acting.Outcome.TheVariants as outcomes
 use Rattle.lt_store.specs.declared.faults.WriteFault.{WriteFault}
+use Rattle.lt_store.specs.declared.faults.WriteFault.TheVariants as writes
 use Rattle.lt_store.specs.declared.writing.Taken.TheVariants as taken
-use Rattle.lt_store.specs.Getting.{KeepsRest, asked}
+use Rattle.lt_htable.specs.declared.faults.LookFault.{LookFault}
+use Rattle.lt_htable.specs.declared.faults.LookFault.TheVariants.{Damaged}
+use Rattle.lt_store.specs.Getting.{AnswersSeen, KeepsRest, asked}
 use Rattle.lt_store.specs.Open.{StoreView}
 use Rattle.lt_store.specs.Taking.{accepted_by}
 
@@ -72,3 +75,11 @@ KeepsOut result old new = new ≡ old
 abbrev pub asked_by : StoreView → EventView → ℕ
 asked_by v (events.Get key) = asked v key.now
 asked_by v event = 0
+
+-- what a get's event answers where it sees a key so
+abbrev pub TellsSeen : List ℕ → Result (Option Item) LookFault → Result Outcome WriteFault → Type 0
+TellsSeen page seen (Ok (outcomes.Value n)) = AnswersSeen page seen (Ok (Some n))
+TellsSeen page seen (Ok outcomes.Missing) = AnswersSeen page seen (Ok None)
+TellsSeen page seen (Err writes.Device) = Unit {0}
+TellsSeen page seen (Err (writes.Damaged block)) = AnswersSeen page seen (Err (Damaged block))
+TellsSeen page seen answer = ⊥

@@ -9,15 +9,17 @@ use Rattle.lt_node.specs.declared.fault.CommitFault.TheVariants as commits
 use Rattle.lt_store.specs.declared.faults.WriteFault.{WriteFault}
 use Rattle.lt_store.specs.declared.faults.WriteFault.TheVariants as writes
 
--- the same fault
+-- the fault of building a table
 abbrev pub IsBuildFault : BuildFault → WriteFault → Type 0
 IsBuildFault builds.Device fault = fault ≡ writes.Device
 IsBuildFault builds.NoMemory fault = fault ≡ writes.NoMemory
 
+-- the fault of committing a manifest
 abbrev pub IsCommitFault : CommitFault → WriteFault → Type 0
 IsCommitFault commits.Device fault = fault ≡ writes.Device
 IsCommitFault commits.NoMemory fault = fault ≡ writes.NoMemory
 
+-- the fault of looking a key up, with its block
 abbrev pub IsLookFault : LookFault → WriteFault → Type 0
 IsLookFault looks.Device fault = fault ≡ writes.Device
 IsLookFault (looks.Damaged block) fault = fault ≡ writes.Damaged block

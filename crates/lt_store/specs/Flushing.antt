@@ -40,6 +40,7 @@ pub record AreFree (m : Named) (numbers : List ℕ) : Type 0 where
 abbrev pub flush_header : StoreView → Header
 flush_header v = record { log_area = other_area v.named.manifest.header.log_area; extents = v.named.manifest.header.extents; writes = v.writes }
 
+-- the log after a flush: the other area, empty, behind all writes
 abbrev pub flushed_log : LogState → Header → LogState
 flushed_log log header = record { geometry = log.geometry; area = other_area log.area; writes = header.writes; slots = 0; pending = []; cleared = false }
 

@@ -1,17 +1,19 @@
 -- What a get finds, and where it looks.
-use Rattle.std.specs.Prelude.{◌≡◌, ℕ, ◌+◌, ◌<◌, Bool, true, false, List, Option, Some, None, Result, Ok, Err, length, take, drop, count_by, slice_index, slice_index_or, IsTrue, if◌then◌else◌}
-use Rattle.std.specs.Option.{option_map_or, is_some}
-use Rattle.lt_terms.specs.Bytes.{Image}
+use Rattle.std.specs.Prelude.{◌≡◌, ℕ, ◌+◌, ◌<◌, Bool, true, false, List, [], ◌∷◌, Option, Some, None, Result, Ok, Err, length, take, drop, count_by, slice_index, slice_index_or, IsTrue, if◌then◌else◌}
+use Rattle.std.specs.Option.{option_and_then, option_map_or, is_some}
+use Rattle.lt_terms.specs.Bytes.{Image, block_at}
 use Rattle.lt_terms.specs.Items.{Item}
 use Rattle.lt_terms.specs.Hashes.{home_column}
 use Rattle.lt_page.specs.Page.{filled}
+use Rattle.lt_tables.specs.Bucket.{look_on}
 use Rattle.lt_tables.specs.Filter.{covers, is_in}
-use Rattle.lt_tables.specs.Merge.{newest, newest_of, is_put}
+use Rattle.lt_tables.specs.Merge.{newest, newest_of, is_put, value_of}
 use Rattle.lt_tables.specs.Table.{IsPlaced}
 use Rattle.lt_format.specs.declared.geometry.Geometry.{Geometry}
 use Rattle.lt_format.specs.Layout.{extent_block}
 use Rattle.lt_htable.specs.declared.faults.LookFault.{LookFault}
 use Rattle.lt_htable.specs.declared.faults.LookFault.TheVariants.{Device, Damaged}
+use Rattle.lt_htable.specs.Reading.{at_home, target_of}
 use Rattle.lt_image.specs.Versions.{extent_in, items_at}
 use Rattle.lt_store.specs.declared.getting.Version.{Version}
 use Rattle.lt_store.specs.declared.getting.Version.TheVariants.{Value, Deleted}
@@ -29,11 +31,12 @@ Answers page value (Ok found) = Finds page value found
 Answers page value (Err Device) = Unit {0}
 Answers page value (Err (Damaged block)) = ⊥
 
--- a page stays as it is, but for the value that is put to its front
+-- a page stays as it is, but for a value of this length at its front
 abbrev pub KeepsRest : Option ℕ → List ℕ → List ℕ → Type 0
 KeepsRest None old new = new ≡ old
 KeepsRest (Some n) old new = drop n new ≡ drop n old
 
+-- a page stays as it is, but for the value that a get puts to its front
 abbrev pub KeepsPage : Result (Option ℕ) LookFault → List ℕ → List ℕ → Type 0
 KeepsPage (Ok found) old new = KeepsRest found old new
 KeepsPage (Err fault) old new = new ≡ old
@@ -72,19 +75,21 @@ pub record IsReadable (g : Geometry) (kept : List (Option (List ℕ))) (image : 
 abbrev pub with_value : List ℕ → List ℕ → List ℕ
 with_value page value = filled page 0 value
 
--- what is told of an item, and the page with its value, where it has one
+-- what is told of an item: the length of its value, or that it is a delete
 abbrev pub version_of : Item → Version
 version_of item = if is_put item then Value (length item.value) else Deleted
 
+-- the page with an item's value at its front; of a delete the page as it is
 abbrev pub page_with : Item → List ℕ → List ℕ
 page_with item page = if is_put item then with_value page item.value else page
 
--- this is what was found
+-- this is told of an item that was found, with its value at the page's front, or of none
 abbrev pub IsVersion : Option Item → Option Version → List ℕ → List ℕ → Type 0
 IsVersion None None old new = new ≡ old
 IsVersion (Some item) (Some version) old new = (version ≡ version_of item) × (new ≡ page_with item old)
 IsVersion item version old new = ⊥
 
+-- the same of an answer that may be a fault; no block is damaged then
 abbrev pub IsAnswer : Option Item → Result (Option Version) LookFault → List ℕ → List ℕ → Type 0
 IsAnswer item (Ok version) old new = IsVersion item version old new
 IsAnswer item (Err Device) old new = Unit {0}
@@ -100,3 +105,43 @@ value_len (Some Deleted) = None
 abbrev pub KeepsUnless : Result (Option Version) LookFault → List ℕ → List ℕ → Type 0
 KeepsUnless (Ok version) old new = KeepsRest (value_len version) old new
 KeepsUnless (Err fault) old new = new ≡ old
+
+-- what the page of a key's home bucket, and where it sends the key that of the target, answer on it; the block, where such a page spells no bucket
+abbrev pub seen_in : Image → ℕ → List ℕ → Result (Option Item) LookFault
+seen_in image first key =
+    let home = look_on (block_at image (first + home_column key)) key in
+    at_home first (home_column key) home (option_and_then (λ column. look_on (block_at image (first + column)) key) (target_of home))
+
+-- what is seen of a key in one table: none where its kept filter does not cover the key
+abbrev pub seen_at : Geometry → List (Option (List ℕ)) → Image → List ℕ → ℕ → Result (Option Item) LookFault
+seen_at g kept image key x = if may_hold kept key x then seen_in image (extent_block g x) key else Ok None
+
+-- the newer answer, where it is an item or a block; else the older one
+abbrev pub before_older : Result (Option Item) LookFault → Result (Option Item) LookFault → Result (Option Item) LookFault
+before_older (Ok None) older = older
+before_older newer older = newer
+
+-- what is seen of a key in a pile: the newest table that has an item of it decides, or one whose page spells no bucket
+abbrev pub seen : Geometry → List (Option (List ℕ)) → Image → List ℕ → List ℕ → Result (Option Item) LookFault
+seen g kept image key [] = Ok None
+seen g kept image key (x ∷ newer) = before_older (seen g kept image key newer) (seen_at g kept image key x)
+
+-- what a store sees of a key: its memory table is newer than the root's tables
+abbrev pub seen_of : StoreView → Image → List ℕ → Result (Option Item) LookFault
+seen_of v image key = before_older (Ok (newest_of key v.memory)) (seen v.named.geometry v.kept image key (root_pile v.named.manifest.trie))
+
+-- the answer is this fault, or that the device failed
+abbrev pub IsFaultOf : {T : Type 0} → LookFault → Result T LookFault → Type 0
+IsFaultOf fault (Ok found) = ⊥
+IsFaultOf fault (Err Device) = Unit {0}
+IsFaultOf fault (Err (Damaged block)) = fault ≡ Damaged block
+
+-- this is what was found, where a key is seen so
+abbrev pub IsSeen : Result (Option Item) LookFault → Result (Option Version) LookFault → List ℕ → List ℕ → Type 0
+IsSeen (Ok item) answer old new = IsAnswer item answer old new
+IsSeen (Err fault) answer old new = IsFaultOf fault answer
+
+-- what a get answers where it sees a key so: the value of the item, or the block that spells no bucket
+abbrev pub AnswersSeen : List ℕ → Result (Option Item) LookFault → Result (Option ℕ) LookFault → Type 0
+AnswersSeen page (Ok item) answer = Answers page (value_of item) answer
+AnswersSeen page (Err fault) answer = IsFaultOf fault answer

@@ -13,6 +13,7 @@ use Rattle.lt_redo.specs.LogState.{LogState}
 abbrev pub logged_count : LogState → List Item → ℕ
 logged_count log memory = length memory - length log.pending
 
+-- the items in the memory table that stand in the log's groups
 abbrev pub logged : LogState → List Item → List Item
 logged log memory = take (logged_count log memory) memory
 

@@ -15,15 +15,16 @@ use Rattle.lt_store.specs.declared.faults.InitFault.{InitFault}
 use Rattle.lt_store.specs.declared.faults.InitFault.TheVariants as makes
 use Rattle.lt_store.specs.Open.{AtRest}
 
--- the same fault
+-- the fault of committing a manifest as one of making a store
 abbrev pub IsSameFault : CommitFault → InitFault → Type 0
 IsSameFault commits.Device fault = fault ≡ makes.Device
 IsSameFault commits.NoMemory fault = fault ≡ makes.NoMemory
 
--- where the device tells what it reads, nothing stands on block 0; or something does
+-- where the device tells what it reads, nothing stands on block 0
 abbrev pub IsVacant : told.State → Type 0
 IsVacant device = ForSome device.shown (λ image. block_at image 0 ≡ zero_block)
 
+-- where the device tells what it reads, something stands on block 0
 abbrev pub IsOccupied : told.State → Type 0
 IsOccupied device = ForSome device.shown (λ image. block_at image 0 ≢ zero_block)
 

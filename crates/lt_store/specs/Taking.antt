@@ -35,7 +35,7 @@ pub record IsFull (v : StoreView) (needed free : ℕ) : Type 0 where
   pub has : free ≡ free_count v.taken
   pub short : free < needed
 
--- the same of an image
+-- a flush is due on the image, and gives so many tables, with so many extents free
 pub record IsFullImage (image : Image) (needed free : ℕ) : Type 0 where
   pub opened : Opened
   pub opens : open_image image ≡ Ok opened

@@ -1,7 +1,8 @@
--- What calls see of the store in memory.
+-- A store in memory, as its contracts see it.
 use Rattle.lt_store.specs.declared.store.Store.{Store}
 use Rattle.lt_store.specs.Open.{StoreView}
 
+-- what calls speak of: all fields but the geometry, which is the manifest's, and the page, which holds any bytes
 abbrev pub view_of : Store → StoreView
 view_of s = record {
   is_up = s.is_up;

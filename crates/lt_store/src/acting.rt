@@ -1,6 +1,6 @@
 //! The calls of a store as events.
 
-ghost use Rattle.std.specs.Prelude.{◌≡◌, ◌≢◌, ◌↔◌, ℕ, ◌+◌, ◌*◌, ◌<◌, ◌≤◌, true, false, [], Ok, Some, IfOk, IsErrOf, IsSome, IsTrue, OnErr, OnOk, length};
+ghost use Rattle.std.specs.Prelude.{◌≡◌, ◌≢◌, ◌↔◌, ℕ, List, ◌+◌, ◌*◌, ◌<◌, ◌≤◌, true, false, [], Ok, Some, IfOk, IsErrOf, IsSome, IsTrue, OnErr, OnOk, length};
 ghost use Rattle.lt_terms.specs.Bytes.{Image};
 ghost use Rattle.lt_terms.specs.Causes.{Rose};
 ghost use Rattle.lt_terms.specs.Items as terms;
@@ -11,12 +11,13 @@ ghost use Rattle.lt_device.specs.Reads.{CountsAtMost};
 ghost use Rattle.lt_format.specs.Log.{group_room};
 ghost use Rattle.lt_format.specs.Trie.{table_total};
 ghost use Rattle.lt_image.specs.Standing.{after_writes};
+ghost use Rattle.lt_language.specs.Commands as commands;
 ghost use Rattle.lt_language.specs.Machine.{State, most_writes};
-ghost use Rattle.lt_store.specs.Acting.{IsStep, KeepsOut, MayAct, accepted_as, asked_by, command_of, only_asks, reply_of, write_of};
+ghost use Rattle.lt_store.specs.Acting.{IsStep, KeepsOut, MayAct, TellsSeen, accepted_as, asked_by, command_of, only_asks, reply_of, write_of};
 ghost use Rattle.lt_store.specs.Committing.{committed};
 ghost use Rattle.lt_store.specs.Damage.{StopsGet};
 ghost use Rattle.lt_store.specs.Flushing.{IsFlushed};
-ghost use Rattle.lt_store.specs.Getting.{IsBucketOf};
+ghost use Rattle.lt_store.specs.Getting.{IsBucketOf, seen_of};
 ghost use Rattle.lt_store.specs.Going.{Goes, Survives, appended};
 ghost use Rattle.lt_store.specs.Open.{IsOpen, IsRooted, StoreView, blocks_of, extents_of, root_pile, state_of};
 ghost use Rattle.lt_store.specs.Taking.{is_due, readied, IsFull, IsFullImage};
@@ -96,6 +97,7 @@ impl Store {
         ensures flushed { (item : terms.Item) → write_of event.entry ≡ Some item → is_due (readied (view_of self.old) (item_cost item)) ≡ true → result ≡ Ok (Outcome.Taken Taken.Ok) → (durable : State) → IsOpen (view_of self.old) durable (D.state device.old)
             → (flushed : StoreView) × IsFlushed (readied (view_of self.old) (item_cost item)) flushed (D.state device.new) × (view_of self.new ≡ appended flushed item) }
         ensures full_same { (item : terms.Item) → write_of event.entry ≡ Some item → (needed free : ℕ) → result ≡ Ok (Outcome.Taken (Taken.Full needed free)) → view_of self.new ≡ readied (view_of self.old) (item_cost item) }
+        ensures full_quiet { (needed free : ℕ) → result ≡ Ok (Outcome.Taken (Taken.Full needed free)) → (view_of self.old).log.pending ≡ [] → device.new ≡ device.old }
         ensures memory_due { (item : terms.Item) → write_of event.entry ≡ Some item → IsErrOf result WriteFault.NoMemory → is_due (readied (view_of self.old) (item_cost item)) ≡ true }
 
         ensures idle { command_of event.entry ≡ None → (view_of self.old).log.pending ≡ [] → (result ≡ Ok Outcome.Committed) × (device.new ≡ device.old) }
@@ -109,6 +111,7 @@ impl Store {
         ensures same_number { OnErr result (self.new.is_up ≡ true → (view_of self.new).writes ≡ (view_of self.old).writes) }
         ensures page { KeepsOut result out.old out.new }
 
+        ensures seen { (key : List ℕ) (image : Image) → command_of event.entry ≡ Some (commands.get key) → (D.state device.old).shown ≡ Some image → TellsSeen out.new (seen_of (view_of self.old) image key) result }
         ensures value { (n : ℕ) → result ≡ Ok (Outcome.Value n) → n ≤ 3000 }
         ensures memory { IsErrOf result WriteFault.NoMemory → IsSome (write_of event.entry) }
         ensures damaged { (b : ℕ) → IsErrOf result (WriteFault.Damaged b) → IsTrue (only_asks event.entry) × StopsGet (D.state device.old) b }

@@ -17,7 +17,7 @@ ghost use Rattle.lt_tables.specs.Table.{blocks_from, IsPlaced};
 ghost use Rattle.lt_format.specs.Layout.{extent_block};
 ghost use Rattle.lt_htable.specs.Reading.{IsNoBucket};
 ghost use Rattle.lt_image.specs.Versions.{pile_items};
-ghost use Rattle.lt_store.specs.Getting.{Answers, KeepsPage, KeepsUnless, IsAnswer, IsBucketOf, IsReadable, HoldsKey, asked, asked_from, may_hold, with_value, version_of, page_with, value_len};
+ghost use Rattle.lt_store.specs.Getting.{Answers, AnswersSeen, KeepsPage, KeepsUnless, IsAnswer, IsBucketOf, IsReadable, IsSeen, HoldsKey, asked, asked_from, may_hold, seen, seen_in, seen_of, with_value, version_of, page_with, value_len};
 ghost use Rattle.lt_store.specs.Open.{IsOpen, blocks_of, root_pile, state_of};
 ghost use Rattle.lt_store.specs.View.{view_of};
 
@@ -62,6 +62,9 @@ impl Store {
         // Whatever the device tells, an item of the memory table decides, and the device is not asked.
         ensures in_memory { (item : terms.Item) → newest_of key.now (view_of self.old).memory ≡ Some item
             → (device.new ≡ device.old) × Answers out.new (value_of (Some item)) result }
+
+        // Whatever the blocks hold, it answers what it sees of the key, or the block that spells no bucket.
+        ensures seen { (image : Image) → (D.state device.old).shown ≡ Some image → AnswersSeen out.new (seen_of (view_of self.old) image key.now) result }
 
         ensures short { (n : ℕ) → result ≡ Ok (Some n) → n ≤ 3000 }
         ensures page { KeepsPage result out.old out.new }
@@ -113,6 +116,7 @@ fn search<D: Device>(
     ensures answer { (image : Image) → (D.state device.old).shown ≡ Some image
         → AllByRecursion (IsReadable geometry.now filters.now image key.now) tables.now
         → IsAnswer (newest_of key.now (pile_items geometry.now image tables.now)) result out.old out.new }
+    ensures seen { (image : Image) → (D.state device.old).shown ≡ Some image → IsSeen (seen geometry.now filters.now image key.now tables.now) result out.old out.new }
     ensures short { IfOk result (λ version. ForSome (value_len version) (λ n. n ≤ 3000)) }
     ensures page { KeepsUnless result out.old out.new }
     ensures damaged { (b : ℕ) → IsErrOf result (LookFault.Damaged b) → IsNoBucket (D.state device.old).shown b }
@@ -167,6 +171,7 @@ fn look_into<D: Device>(
     requires parts { parts.now ≡ parts_of key.now }
     ensures answer { (image : Image) (items : List terms.Item) → (D.state device.old).shown ≡ Some image → IsPlaced items (blocks_from image first)
         → IsAnswer (newest_of key.now items) result out.old out.new }
+    ensures seen { (image : Image) → (D.state device.old).shown ≡ Some image → IsSeen (seen_in image first key.now) result out.old out.new }
     ensures short { IfOk result (λ version. ForSome (value_len version) (λ n. n ≤ 3000)) }
     ensures page { KeepsUnless result out.old out.new }
     ensures damaged { (b : ℕ) → IsErrOf result (LookFault.Damaged b) → IsNoBucket (D.state device.old).shown b }

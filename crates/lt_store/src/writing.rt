@@ -75,6 +75,7 @@ impl Store {
         ensures flushed { is_due (readied (view_of self.old) (item_cost (put_of key.now value.now))) ≡ true → result ≡ Ok Taken.Ok → (durable : State) → IsOpen (view_of self.old) durable (D.state device.old)
             → (flushed : StoreView) × IsFlushed (readied (view_of self.old) (item_cost (put_of key.now value.now))) flushed (D.state device.new) × (view_of self.new ≡ appended flushed (put_of key.now value.now)) }
         ensures full_same { (needed free : ℕ) → result ≡ Ok (Taken.Full needed free) → view_of self.new ≡ (readied (view_of self.old) (item_cost (put_of key.now value.now))) }
+        ensures full_quiet { (needed free : ℕ) → result ≡ Ok (Taken.Full needed free) → (view_of self.old).log.pending ≡ [] → device.new ≡ device.old }
         ensures memory { IsErrOf result WriteFault.NoMemory → is_due (readied (view_of self.old) (item_cost (put_of key.now value.now))) ≡ true }
 
         ensures at_once { is_due (view_of self.old) ≡ false → total_cost (view_of self.old).memory ≤ 200000 → total_cost (view_of self.old).log.pending + item_cost (put_of key.now value.now) ≤ group_room → (view_of self.old).writes ≢ most_writes
@@ -128,6 +129,7 @@ impl Store {
         ensures flushed { is_due (readied (view_of self.old) (item_cost (delete_of key.now))) ≡ true → result ≡ Ok Taken.Ok → (durable : State) → IsOpen (view_of self.old) durable (D.state device.old)
             → (flushed : StoreView) × IsFlushed (readied (view_of self.old) (item_cost (delete_of key.now))) flushed (D.state device.new) × (view_of self.new ≡ appended flushed (delete_of key.now)) }
         ensures full_same { (needed free : ℕ) → result ≡ Ok (Taken.Full needed free) → view_of self.new ≡ (readied (view_of self.old) (item_cost (delete_of key.now))) }
+        ensures full_quiet { (needed free : ℕ) → result ≡ Ok (Taken.Full needed free) → (view_of self.old).log.pending ≡ [] → device.new ≡ device.old }
         ensures memory { IsErrOf result WriteFault.NoMemory → is_due (readied (view_of self.old) (item_cost (delete_of key.now))) ≡ true }
 
         ensures at_once { is_due (view_of self.old) ≡ false → total_cost (view_of self.old).memory ≤ 200000 → total_cost (view_of self.old).log.pending + item_cost (delete_of key.now) ≤ group_room → (view_of self.old).writes ≢ most_writes
@@ -180,6 +182,7 @@ impl Store {
         ensures flushed { is_due (readied (view_of self.old) (item_cost (item_of item.now))) ≡ true → result ≡ Ok Taken.Ok → (durable : State) → IsOpen (view_of self.old) durable (D.state device.old)
             → (flushed : StoreView) × IsFlushed (readied (view_of self.old) (item_cost (item_of item.now))) flushed (D.state device.new) × (view_of self.new ≡ appended flushed (item_of item.now)) }
         ensures full_same { (needed free : ℕ) → result ≡ Ok (Taken.Full needed free) → view_of self.new ≡ (readied (view_of self.old) (item_cost (item_of item.now))) }
+        ensures full_quiet { (needed free : ℕ) → result ≡ Ok (Taken.Full needed free) → (view_of self.old).log.pending ≡ [] → device.new ≡ device.old }
         ensures memory { IsErrOf result WriteFault.NoMemory → is_due (readied (view_of self.old) (item_cost (item_of item.now))) ≡ true }
 
         ensures at_once { is_due (view_of self.old) ≡ false → total_cost (view_of self.old).memory ≤ 200000 → total_cost (view_of self.old).log.pending + item_cost (item_of item.now) ≤ group_room → (view_of self.old).writes ≢ most_writes
@@ -223,6 +226,7 @@ impl Store {
             → Survives (view_of self.old) [] durable (D.state device.old) (D.state device.new)) }
         ensures rooted { (durable : State) → IsOpen (view_of self.old) durable (D.state device.old) → Leaves IsRooted (D.state device.old) (D.state device.new) }
         ensures ready { OnOk result (view_of self.new ≡ readied (view_of self.old) cost) }
+        ensures idle { self.old.log.pending ≡ [] → device.new ≡ device.old }
         ensures at_once { total_cost (view_of self.old).memory ≤ 200000 → total_cost self.old.log.pending + cost ≤ group_room
             → IsOk result × (view_of self.new ≡ view_of self.old) × (device.new ≡ device.old) }
         ensures up { OnOk result (self.new.is_up ≡ true) }
@@ -252,7 +256,7 @@ impl Store {
         ensures opened_again { IsErrOf result WriteFault.NoMemory → (durable : State) → IsOpen (view_of self.old) durable (D.state device.old) → IsOpen (view_of self.new) durable (D.state device.new) }
         ensures not_due { is_due (view_of self.old) ≡ false → (result ≡ Ok None) × (view_of self.new ≡ view_of self.old) × (device.new ≡ device.old) }
         ensures flushed { is_due (view_of self.old) ≡ true → result ≡ Ok None → (durable : State) → IsOpen (view_of self.old) durable (D.state device.old) → IsFlushed (view_of self.old) (view_of self.new) (D.state device.new) }
-        ensures short { (short : Short) → result ≡ Ok (Some short) → view_of self.new ≡ view_of self.old }
+        ensures short { (short : Short) → result ≡ Ok (Some short) → (view_of self.new ≡ view_of self.old) × (device.new ≡ device.old) }
         ensures pending { IsOk result → self.new.log.pending ≡ self.old.log.pending }
         ensures pending_again { IsErrOf result WriteFault.NoMemory → self.new.log.pending ≡ self.old.log.pending }
         ensures small { result ≡ Ok None → total_cost (view_of self.new).memory ≤ 200000 }

@@ -8,6 +8,7 @@ use Rattle.lt_htable.specs.declared.faults.LookFault.TheVariants.{Device, Damage
 use Rattle.lt_htable.specs.Reading.{IsLookedUp}
 use Rattle.lt_store.specs.Getting.{IsVersion}
 use Rattle.lt_store.proofs.LookLaws.{looked_up-damaged, looked_up-valid}
+use Rattle.lt_store.proofs.SeenLaws.{fault-seen, found-seen}
 use Rattle.lt_store.proofs.getting.look_into.Goals as goal
 
 pub show-requires : goal.show-requires
@@ -43,3 +44,22 @@ returns-in-None-clause-answer g c = λ image items told placed.
     let at = c.in_ok-item.ensures.placed image items told placed in
     let none : None ≡ newest_of key items = ap (option_map item_of) (sym c.in-None.is) ∙ at in
     subst (λ (o : Option Item). IsVersion o None c.args.out.now c.args.out.now) none refl
+
+pub returns-in_err-item-clause-seen : goal.returns-in_err-item-clause-seen
+returns-in_err-item-clause-seen g c = λ image told.
+    let fault = err_from_is_err_and c.from_residual.result c.from_residual.ensures.1 in
+    rw (fault.1, fault.2) (fault-seen _ image c.args.first c.args.key.now c.in_err-item.field-0.0 c.args.out.now c.args.out.now told c.in_err-item.ensures.answer)
+
+pub returns-in-Some-clause-seen : goal.returns-in-Some-clause-seen
+returns-in-Some-clause-seen g c = λ image told.
+    let shown = (g.D.Device.state c.args.device.now).shown in
+    let key : List ℕ = c.args.key.now in
+    found-seen shown image c.args.first key (Some (item_of c.in-Some.item)) (Some c.show.result) c.args.out.now c.show.new.out told
+    (subst (λ (o : Option Item). IsLookedUp shown c.args.first key (Ok o)) (ap (option_map item_of) c.in-Some.is) c.in_ok-item.ensures.answer) (c.show.ensures.version, c.show.ensures.page)
+
+pub returns-in-None-clause-seen : goal.returns-in-None-clause-seen
+returns-in-None-clause-seen g c = λ image told.
+    let shown = (g.D.Device.state c.args.device.now).shown in
+    let key : List ℕ = c.args.key.now in
+    found-seen shown image c.args.first key None None c.args.out.now c.args.out.now told
+    (subst (λ (o : Option Item). IsLookedUp shown c.args.first key (Ok o)) (ap (option_map item_of) c.in-None.is) c.in_ok-item.ensures.answer) refl

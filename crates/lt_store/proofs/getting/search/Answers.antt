@@ -10,7 +10,27 @@ use Rattle.lt_tables.specs.Merge.{newest, newest_of}
 use Rattle.lt_image.specs.Versions.{items_at, pile_items}
 use Rattle.lt_store.specs.Getting.{IsAnswer, IsReadable, may_hold}
 use Rattle.lt_store.proofs.PileLaws.{all_at, placed-at, pile-found, pile-none, pile-skipped, same_page, answer-fault, held-before, count-behind, count-asked, count-passed, count-part, counts-more, counts-fewer}
+use Rattle.lt_store.proofs.SeenLaws.{fault-above, found-above, none-above, skipped-seen}
 use Rattle.lt_store.proofs.getting.search.Goals as goal
+
+pub returns-in_err-version-clause-seen : goal.returns-in_err-version-clause-seen
+returns-in_err-version-clause-seen g c = λ image told.
+    let so_far = c.loop-i.invariant in
+    let tables : List ℕ = c.args.tables.now in
+    let j : ℕ = c.loop-i.i - 1 in
+    let fault = err_from_is_err_and c.from_residual.result c.from_residual.ensures.1 in
+    let here = c.in_err-version.ensures.seen image (ap (λ (s : State). s.shown) so_far.state ∙ told) in
+    rw (fault.1, fault.2) (fault-above c.args.geometry.now c.args.filters.now image c.args.key.now tables c.loop-i.i j (omega arith) (omega arith) (so_far.sees image told)
+    c.extent-first.result c.extent-first.ensures (sym c.may_hold.ensures ∙ c.if-may_hold.true) c.in_err-version.field-0.0 c.loop-i.out c.look_into.new.out c.args.out.now c.look_into.new.out here)
+
+pub returns-then-is_some-clause-seen : goal.returns-then-is_some-clause-seen
+returns-then-is_some-clause-seen g c = λ image told.
+    let so_far = c.loop-i.invariant in
+    let tables : List ℕ = c.args.tables.now in
+    let j : ℕ = c.loop-i.i - 1 in
+    let here = c.in_ok-version.ensures.seen image (ap (λ (s : State). s.shown) so_far.state ∙ told) in
+    found-above c.args.geometry.now c.args.filters.now image c.args.key.now tables c.loop-i.i j (omega arith) (omega arith) (so_far.sees image told)
+    c.extent-first.result c.extent-first.ensures (sym c.may_hold.ensures ∙ c.if-may_hold.true) c.in_ok-version.version c.loop-i.out c.look_into.new.out c.args.out.now so_far.out (sym c.is_some.ensures ∙ c.if-is_some.true) here
 
 pub returns-in_err-version-clause-answer : goal.returns-in_err-version-clause-answer
 returns-in_err-version-clause-answer g c = λ image told readable.
@@ -102,6 +122,10 @@ loop-i-preserved-else-is_some g c =
           let answer = c.in_ok-version.ensures.answer image (newest (items_at c.args.geometry.now image (get_or tables j 0))) (ap (λ (s : State). s.shown) so_far.state ∙ told)
           (placed-at c.args.geometry.now c.args.filters.now image key tables j c.extent-first.result readable below c.extent-first.ensures) in
           pile-none c.args.geometry.now image key tables c.loop-i.i j (omega arith) below (so_far.none image told readable) c.in_ok-version.version c.loop-i.out c.look_into.new.out (sym c.is_some.ensures ∙ c.if-is_some.false) answer;
+      sees = λ image told.
+          let here = c.in_ok-version.ensures.seen image (ap (λ (s : State). s.shown) so_far.state ∙ told) in
+          none-above c.args.geometry.now c.args.filters.now image key tables c.loop-i.i j (omega arith) below (so_far.sees image told)
+          c.extent-first.result c.extent-first.ensures (sym c.may_hold.ensures ∙ c.if-may_hold.true) c.in_ok-version.version c.loop-i.out c.look_into.new.out (sym c.is_some.ensures ∙ c.if-is_some.false) here;
       out = same_page c.in_ok-version.version c.loop-i.out c.look_into.new.out (sym c.is_some.ensures ∙ c.if-is_some.false) c.in_ok-version.ensures.page ∙ so_far.out;
       state = asked.state ∙ so_far.state;
       size = asked.size ∙ so_far.size;
@@ -123,6 +147,7 @@ loop-i-preserved g c =
       none = λ image told readable.
           pile-skipped c.args.geometry.now image key tables c.loop-i.i j step below (so_far.none image told readable)
           ((all_at (IsReadable c.args.geometry.now c.args.filters.now image key) tables j readable below).skipped no);
+      sees = λ image told. skipped-seen c.args.geometry.now c.args.filters.now image key tables c.loop-i.i j step below (so_far.sees image told) no;
       out = so_far.out;
       state = so_far.state;
       size = so_far.size;

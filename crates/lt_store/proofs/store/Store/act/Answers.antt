@@ -1,17 +1,19 @@
-use Rattle.std.proofs.Common.{rules, ◌≡◌, sym, ap, subst, ◌∙◌, true, [], Ok, vec_len}
+use Rattle.std.proofs.Common.{rules, ◌≡◌, ℕ, sym, ap, subst, ◌∙◌, true, List, [], Some, None, Ok, Err, vec_len}
 use Rattle.std.specs.Prelude.{IsErrOf}
+use Rattle.std.proofs.lemmas.Result.{err_from_is_err_and}
 use Rattle.lt_htable.specs.declared.faults.LookFault.TheVariants.{Damaged}
 use Rattle.lt_store.specs.declared.counts.Stat.{Stat}
 use Rattle.lt_store.specs.declared.writing.Taken.TheVariants as taken
 use Rattle.lt_terms.specs.Items.{Item, item_cost}
 use Rattle.lt_language.specs.Machine.{put_of, delete_of}
-use Rattle.lt_store.specs.Acting.{write_of}
+use Rattle.lt_store.specs.Acting.{command_of, write_of}
 use Rattle.lt_store.specs.Flushing.{IsFlushed}
+use Rattle.lt_store.specs.Getting.{AnswersSeen, seen_of}
 use Rattle.lt_store.specs.Going.{appended}
 use Rattle.lt_store.specs.Taking.{is_due, readied}
 use Rattle.lt_store.specs.Open.{StoreView, state_of}
 use Rattle.lt_store.specs.View.{view_of}
-use Rattle.lt_store.proofs.ActLaws.{asks-goes, asks-rooted, stat-step, put-step, delete-step, refused-goes, refused-survives, on_err, same-item, same-taken, limits}
+use Rattle.lt_store.proofs.ActLaws.{asks-goes, asks-rooted, stat-step, put-step, delete-step, refused-goes, refused-survives, on_err, same-item, same-key, same-taken, tells-fault, limits}
 use Rattle.lt_store.proofs.AnswerLaws.{all-writes}
 use Rattle.lt_store.proofs.GoLaws.{goes-none}
 use Rattle.lt_store.proofs.RootedLaws.{rooted-none}
@@ -85,6 +87,28 @@ pub returns-in_err-len-in-Get-clause-sound : goal.returns-in_err-len-in-Get-clau
 returns-in_err-len-in-Get-clause-sound g c = λ b durable opened is.
     let was : IsErrOf c.get.result (Damaged b) = search rules in
     rw was at (c.get.ensures.answer durable opened)
+
+pub returns-in_err-len-in-Get-clause-seen : goal.returns-in_err-len-in-Get-clause-seen
+returns-in_err-len-in-Get-clause-seen g c = λ key image is told.
+    let v : StoreView = view_of c.args.self.now in
+    let same : c.in-Get.key.now ≡ key = same-key _ _ (sym (ap command_of c.in-Get.is) ∙ is) in
+    let fault = err_from_is_err_and c.from_residual-in_err-len-in-Get.result c.from_residual-in_err-len-in-Get.ensures.1 in
+    let answer = subst (λ (k : List ℕ). AnswersSeen c.get.new.out (seen_of v image k) (Err c.in_err-len-in-Get.field-0.0)) same (c.in_err-len-in-Get.ensures.seen image told) in
+    rw fault.1 (tells-fault c.get.new.out (seen_of v image key) c.in_err-len-in-Get.field-0.0 fault.0 fault.2 answer)
+
+pub returns-in-Some-clause-seen : goal.returns-in-Some-clause-seen
+returns-in-Some-clause-seen g c = λ key image is told.
+    let v : StoreView = view_of c.args.self.now in
+    let same : c.in-Get.key.now ≡ key = same-key _ _ (sym (ap command_of c.in-Get.is) ∙ is) in
+    let was : c.get.result ≡ Ok (Some c.in-Some.len) = search rules in
+    subst (λ (k : List ℕ). AnswersSeen c.get.new.out (seen_of v image k) (Ok (Some c.in-Some.len))) same (rw was at (c.get.ensures.seen image told))
+
+pub returns-in-None-clause-seen : goal.returns-in-None-clause-seen
+returns-in-None-clause-seen g c = λ key image is told.
+    let v : StoreView = view_of c.args.self.now in
+    let same : c.in-Get.key.now ≡ key = same-key _ _ (sym (ap command_of c.in-Get.is) ∙ is) in
+    let was : c.get.result ≡ Ok None = search rules in
+    subst (λ (k : List ℕ). AnswersSeen c.get.new.out (seen_of v image k) (Ok None)) same (rw was at (c.get.ensures.seen image told))
 
 -- ---- a stat
 

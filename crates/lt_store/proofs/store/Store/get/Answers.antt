@@ -1,9 +1,14 @@
-use Rattle.std.proofs.Common.{sym, ap, ◌∙◌, Ok, Err, vec_len}
+use Rattle.std.proofs.Common.{sym, ap, subst, ◌∙◌, Ok, Err, Some, Option, Result, vec_len}
 use Rattle.std.proofs.lemmas.Result.{err_from_is_err_and}
 use Rattle.lt_item.specs.Views.{item_of}
 use Rattle.lt_format.specs.Trie.{Trie, root, node_at}
+use Rattle.lt_htable.specs.declared.faults.LookFault.{LookFault}
+use Rattle.lt_terms.specs.Items.{Item}
+use Rattle.lt_store.specs.Getting.{AnswersSeen, seen_of, value_len}
+use Rattle.lt_store.specs.Open.{StoreView}
 use Rattle.lt_store.specs.View.{view_of}
 use Rattle.lt_store.proofs.AnswerLaws.{answer-memory, answer-pile, answer-fault, searched, stopped, counts-none, tables-within}
+use Rattle.lt_store.proofs.SeenLaws.{answers-fault, answers-seen, given-seen, memory-seen}
 use Rattle.lt_store.proofs.store.Store.get.Goals as goal
 use Rattle.lt_store.proofs.store.Store.get.Goals.{in-Some, in-None+in_ok-version-in-None}
 
@@ -55,4 +60,30 @@ returns-clause-stops g c = λ durable image j opened told holds.
           let tables_are = w.pile-tables.ensures ∙ ap (λ (t : Trie). (node_at t root).tables) w.trie.ensures.nodes in
           rw w.device-is
           (stopped (view_of s) durable (g.D.Device.state c.args.device.now) opened (vec_len s.filters) k c.args.key.now s.geometry w.deref.result.now w.pile-tables.result.now _ _ s.geometry_is w.deref.ensures.value tables_are w.search.ensures.stops image j told holds)
+    ]
+
+pub returns-in_err-version-in-None-clause-seen : goal.returns-in_err-version-in-None-clause-seen
+returns-in_err-version-in-None-clause-seen g c = λ image told.
+    let s = c.args.self.now in
+    let v : StoreView = view_of s in
+    let fault = err_from_is_err_and c.from_residual.result c.from_residual.ensures.1 in
+    let tables_are = c.pile-tables.ensures ∙ ap (λ (t : Trie). (node_at t root).tables) c.trie.ensures.nodes in
+    let answer = given-seen v image c.args.key.now s.geometry c.deref.result.now c.pile-tables.result.now (Err c.in_err-version-in-None.field-0.0) c.args.out.now c.search.new.out (sym c.in-None.ensures.item) s.geometry_is c.deref.ensures.value tables_are (c.in_err-version-in-None.ensures.seen image told) in
+    rw (fault.1, fault.2) (answers-fault (seen_of v image c.args.key.now) c.in_err-version-in-None.field-0.0 c.args.out.now c.search.new.out answer)
+
+pub returns-clause-seen : goal.returns-clause-seen
+returns-clause-seen g c = λ image told.
+    let s = c.args.self.now in
+    let v : StoreView = view_of s in
+    elim c.match-get.branch [
+      | in-Some w ↦
+          let seen = memory-seen v image c.args.key.now (item_of w.in-Some.item) (sym w.in-Some.ensures.item) in
+          let at = subst (λ (answer : Result (Option Item) LookFault). AnswersSeen w.show.new.out answer (Ok (value_len (Some w.show.result)))) (sym seen)
+          (answers-seen (Ok (Some (item_of w.in-Some.item))) (Some w.show.result) c.args.out.now w.show.new.out (w.show.ensures.version, w.show.ensures.page)) in
+          rw (w.out-is, c.value_len.ensures, w.version-is) at
+      | in-None+in_ok-version-in-None w ↦
+          let tables_are = w.pile-tables.ensures ∙ ap (λ (t : Trie). (node_at t root).tables) w.trie.ensures.nodes in
+          let answer = given-seen v image c.args.key.now s.geometry w.deref.result.now w.pile-tables.result.now (Ok w.in_ok-version-in-None.version) c.args.out.now w.search.new.out (sym w.in-None.ensures.item) s.geometry_is w.deref.ensures.value tables_are (w.in_ok-version-in-None.ensures.seen image told) in
+          let at = answers-seen (seen_of v image c.args.key.now) w.in_ok-version-in-None.version c.args.out.now w.search.new.out answer in
+          rw (w.out-is, c.value_len.ensures, w.version-is) at
     ]

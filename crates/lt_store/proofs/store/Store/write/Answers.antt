@@ -96,7 +96,10 @@ pub returns-in-Some-clause-full_same : goal.returns-in-Some-clause-full_same
 returns-in-Some-clause-full_same g c = λ needed free is.
     let v : StoreView = view_of c.args.self.now in
     let ready : view_of c.commit_full.new.self ≡ readied v (item_cost (item_of c.args.item.now)) = c.in_ok-commit_full.ensures.ready ∙ ap (readied v) c.cost.ensures in
-    c.in_ok-flush_due.ensures.short c.in-Some.field-0 (ap Ok c.in-Some.is) ∙ ready
+    (c.in_ok-flush_due.ensures.short c.in-Some.field-0 (ap Ok c.in-Some.is)).0 ∙ ready
+
+pub returns-in-Some-clause-full_quiet : goal.returns-in-Some-clause-full_quiet
+returns-in-Some-clause-full_quiet g c = λ needed free is idle. (c.in_ok-flush_due.ensures.short c.in-Some.field-0 (ap Ok c.in-Some.is)).1 ∙ c.commit_full.ensures.idle idle
 
 pub returns-in_err-flush_due-clause-memory : goal.returns-in_err-flush_due-clause-memory
 returns-in_err-flush_due-clause-memory g c = λ none.
