@@ -5,15 +5,15 @@ use Rattle.lt_language.specs.Lines.{line_feed}
 use Rattle.lt_language.specs.Replies.{spaced}
 use Rattle.lt_io.specs.Sink.{Gains, GainsFront}
 
--- a block does not stand
+-- the line which says that this block does not stand
 abbrev pub damage_line : ℕ → List ℕ
 damage_line block = codes "DAMAGED" ++ spaced block ++ line_feed ∷ []
 
--- the device has too few blocks
+-- the line which says that the device has too few blocks: how many are needed, and how many it has
 abbrev pub small_line : ℕ → ℕ → List ℕ
 small_line needed has = codes "TOO SMALL" ++ spaced needed ++ spaced has ++ line_feed ∷ []
 
--- something stands on the device
+-- the line which says that something stands on the device
 abbrev pub occupied_line : List ℕ
 occupied_line = codes "OCCUPIED" ++ line_feed ∷ []
 

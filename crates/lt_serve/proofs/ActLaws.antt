@@ -1,5 +1,6 @@
 -- A command that was acted, and one that was not.
 use Rattle.std.proofs.Common.{◌≡◌, ℕ, ◌≤◌, refl, sym, ap, subst, ◌∙◌, List, [], ◌∷◌, ◌++◌, take, length, append-nil, Bool, true, false, Option, Some, None, arith}
+use Rattle.std.specs.Prelude.{IsTrue}
 use Rattle.std.proofs.lemmas.List.{take_all}
 use Rattle.lt_terms.specs.Items.{Item}
 use Rattle.lt_device.specs.Moments.{Leaves}
@@ -20,7 +21,7 @@ use Rattle.lt_store.specs.declared.acting.Outcome.TheVariants as outcomes
 use Rattle.lt_store.specs.declared.faults.WriteFault.{WriteFault}
 use Rattle.lt_store.specs.declared.faults.WriteFault.TheVariants as faults
 use Rattle.lt_store.specs.declared.writing.Taken.TheVariants as answer
-use Rattle.lt_store.specs.Acting.{IsStep, accepted_as, command_of, reply_of, write_of}
+use Rattle.lt_store.specs.Acting.{IsStep, accepted_as, command_of, only_asks, reply_of, write_of}
 use Rattle.lt_store.specs.Going.{Goes, Survives}
 use Rattle.lt_store.specs.Open.{IsOpen, IsRooted, Rests, StoreView, extents_of, state_of}
 use Rattle.lt_store.proofs.GoLaws.{goes-none, open-rests}
@@ -107,19 +108,52 @@ same-text outcomes.Missing page value front has = refl
 same-text (outcomes.Stat s) page value front has = refl
 same-text outcomes.Committed page value front has = refl
 
+-- ---- events that leave the device
+
+-- a put or a delete that was not taken
+quiet-put : (key value : List ℕ) (outcome : Outcome) (page : List ℕ) (e : ℕ) (s t : State) (old new : told.State) → IsStep e s (Some (commands.put key value)) (reply_of outcome page) t → accepted_as outcome (Some (put_of key value)) ≡ []
+    → ((n f : ℕ) → outcome ≡ outcomes.Taken (answer.Full n f) → new ≡ old) → (outcome ≡ outcomes.Taken answer.Limit → new ≡ old) → new ≡ old
+quiet-put key value (outcomes.Taken answer.Ok) page e s t old new step none full limit = absurd (cc (none))
+quiet-put key value (outcomes.Taken (answer.Full n f)) page e s t old new step none full limit = full n f refl
+quiet-put key value (outcomes.Taken answer.Limit) page e s t old new step none full limit = limit refl
+quiet-put key value (outcomes.Value n) page e s t old new step none full limit = absurd step
+quiet-put key value outcomes.Missing page e s t old new step none full limit = absurd step
+quiet-put key value (outcomes.Stat x) page e s t old new step none full limit = absurd step
+quiet-put key value outcomes.Committed page e s t old new step none full limit = absurd step
+
+quiet-delete : (key : List ℕ) (outcome : Outcome) (page : List ℕ) (e : ℕ) (s t : State) (old new : told.State) → IsStep e s (Some (commands.delete key)) (reply_of outcome page) t → accepted_as outcome (Some (delete_of key)) ≡ []
+    → ((n f : ℕ) → outcome ≡ outcomes.Taken (answer.Full n f) → new ≡ old) → (outcome ≡ outcomes.Taken answer.Limit → new ≡ old) → new ≡ old
+quiet-delete key (outcomes.Taken answer.Ok) page e s t old new step none full limit = absurd (cc (none))
+quiet-delete key (outcomes.Taken (answer.Full n f)) page e s t old new step none full limit = full n f refl
+quiet-delete key (outcomes.Taken answer.Limit) page e s t old new step none full limit = limit refl
+quiet-delete key (outcomes.Value n) page e s t old new step none full limit = absurd step
+quiet-delete key outcomes.Missing page e s t old new step none full limit = absurd step
+quiet-delete key (outcomes.Stat x) page e s t old new step none full limit = absurd step
+quiet-delete key outcomes.Committed page e s t old new step none full limit = absurd step
+
+-- an event of which no write was taken
+quiet-event : (event : EventView) (command : Command) (outcome : Outcome) (page : List ℕ) (e : ℕ) (s t : State) (old new : told.State) → command_of event ≡ Some command → IsStep e s (command_of event) (reply_of outcome page) t → accepted_as outcome (write_of event) ≡ []
+    → (IsTrue (only_asks event) → new ≡ old) → ((n f : ℕ) → outcome ≡ outcomes.Taken (answer.Full n f) → new ≡ old) → (outcome ≡ outcomes.Taken answer.Limit → new ≡ old) → new ≡ old
+quiet-event (events.Put key value) command outcome page e s t old new is step none asked full limit = quiet-put key.now value.now outcome page e s t old new step none full limit
+quiet-event (events.Delete key) command outcome page e s t old new is step none asked full limit = quiet-delete key.now outcome page e s t old new step none full limit
+quiet-event (events.Get key) command outcome page e s t old new is step none asked full limit = asked refl
+quiet-event events.Stat command outcome page e s t old new is step none asked full limit = asked refl
+quiet-event events.Commit command outcome page e s t old new is step none asked full limit = absurd (cc (is))
+
 -- ---- a command that was acted
 
 answers-reply : (v w : StoreView) (durable : State) (command : Command) (item : Option Item) (outcome : Outcome) (reply : Option Reply) (waiting0 waiting : Waiting) (old new : told.State)
     → IsStep (extents_of v) (state_of v durable) (Some command) reply (after_writes (state_of v durable) (accepted_as outcome item)) → IsTakenAs command item outcome reply → IsOkAs outcome reply
-    → Goes v (accepted_as outcome item) w durable old new → Leaves IsRooted old new → length (reply_text reply) ≤ waiting0.room → waiting ≡ with_text waiting0 (reply_text reply)
+    → Goes v (accepted_as outcome item) w durable old new → Leaves IsRooted old new → (v.log.pending ≡ [] → accepted_as outcome item ≡ [] → new ≡ old) → length (reply_text reply) ≤ waiting0.room → waiting ≡ with_text waiting0 (reply_text reply)
     → Answers v durable command (is_taken outcome) waiting0 waiting w old new
-answers-reply v w durable command item outcome None waiting0 waiting old new step taken ok goes rooted fits told = absurd step
-answers-reply v w durable command item outcome (Some reply) waiting0 waiting old new step taken ok goes rooted fits told = record {
+answers-reply v w durable command item outcome None waiting0 waiting old new step taken ok goes rooted quiet fits told = absurd step
+answers-reply v w durable command item outcome (Some reply) waiting0 waiting old new step taken ok goes rooted quiet fits told = record {
   reply = reply;
   writes = accepted_as outcome item;
   runs = runs-one (extents_of v) (state_of v durable) command reply (accepted_as outcome item) step taken;
   goes = goes;
   rooted = rooted;
+  quiet = quiet;
   taken_is = ok;
   fits = fits;
   told = told;
@@ -130,15 +164,16 @@ pub answers-event : (v w : StoreView) (durable : State) (event : EventView) (com
     → command_of event ≡ Some command
     → IsStep (extents_of v) (state_of v durable) (command_of event) (reply_of outcome page) (after_writes (state_of v durable) (accepted_as outcome (write_of event)))
     → Goes v (accepted_as outcome (write_of event)) w durable old new → Leaves IsRooted old new
+    → (IsTrue (only_asks event) → new ≡ old) → ((n f : ℕ) → outcome ≡ outcomes.Taken (answer.Full n f) → v.log.pending ≡ [] → new ≡ old) → (outcome ≡ outcomes.Taken answer.Limit → new ≡ old)
     → ((n : ℕ) → outcome ≡ outcomes.Value n → value ≡ take n page) → HasValue outcome value
     → length (outcome_text outcome value) ≤ most_text → 3007 ≤ waiting0.room → waiting ≡ with_text waiting0 (outcome_text outcome value)
     → Answers v durable command (is_taken outcome) waiting0 waiting w old new
-answers-event v w durable event command outcome page value waiting0 waiting old new is step goes rooted front has short room told =
+answers-event v w durable event command outcome page value waiting0 waiting old new is step goes rooted asked full limit front has short room told =
     let same : outcome_text outcome value ≡ reply_text (reply_of outcome page) = same-text outcome page value front has in
     let len : length (outcome_text outcome value) ≡ length (reply_text (reply_of outcome page)) = ap length same in
     answers-reply v w durable command (write_of event) outcome (reply_of outcome page) waiting0 waiting old new
     (subst (λ (x : Option Command). IsStep (extents_of v) (state_of v durable) x (reply_of outcome page) (after_writes (state_of v durable) (accepted_as outcome (write_of event)))) is step)
-    (taken-event event command outcome page is) (ok-as outcome page) goes rooted (omega arith) (told ∙ ap (with_text waiting0) same)
+    (taken-event event command outcome page is) (ok-as outcome page) goes rooted (λ idle none. quiet-event event command outcome page (extents_of v) (state_of v durable) (after_writes (state_of v durable) (accepted_as outcome (write_of event))) old new is step none asked (λ n f same. full n f same idle) limit) (omega arith) (told ∙ ap (with_text waiting0) same)
 
 -- a line was refused
 pub answers-bad : (v : StoreView) (durable : State) (kind : Bad) (waiting0 waiting : Waiting) (s : told.State) → IsOpen v durable s
@@ -149,6 +184,7 @@ answers-bad v durable kind waiting0 waiting s opened short room told = record {
   runs = runs-one (extents_of v) (state_of v durable) (commands.bad kind) (replies.bad kind) [] (refl, no_writes (state_of v durable)) refl;
   goes = goes-none v durable s opened;
   rooted = rooted-none v durable s opened;
+  quiet = λ idle none. refl;
   taken_is = refl;
   fits = omega arith;
   told = told;

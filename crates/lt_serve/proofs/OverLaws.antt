@@ -121,6 +121,7 @@ module _ (e : ℕ) (before : State) (input output kept : List ℕ) (w : StoreVie
     at_exit = open-has w before r.writes (acknowledged r.replies (length output)) now r.opened reached-sure;
     rests = λ short. rests-whole before r.writes now reached-rests;
     rests_all = λ settled. reached-rests;
+    quiet = λ settled. r.quiet;
   }
 
   -- at the end of input, where no byte is left unfinished
@@ -143,6 +144,7 @@ module _ (e : ℕ) (before : State) (input output kept : List ℕ) (w : StoreVie
     at_exit = open-has w before r.writes (acknowledged r.replies (length output)) now r.opened reached-sure;
     rests = λ short. rests-whole before r.writes now reached-rests;
     rests_all = λ settled. reached-rests;
+    quiet = λ settled. r.quiet;
   }
 
   -- at the end of input, where the rest was refused, and this much of the refusal is shown
@@ -174,4 +176,5 @@ module _ (e : ℕ) (before : State) (input output kept : List ℕ) (w : StoreVie
             omega arith);
         rests = λ short. rests-whole before r.writes now reached-rests;
         rests_all = λ settled. reached-rests;
+        quiet = λ settled. r.quiet;
       }

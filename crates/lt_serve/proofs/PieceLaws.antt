@@ -18,7 +18,7 @@ use Rattle.lt_language.specs.Commands.{Command, commands, refused_rest}
 use Rattle.lt_language.specs.Lines.{lines_of, rest_of}
 use Rattle.lt_language.specs.Machine.{State}
 use Rattle.lt_language.specs.Replies.{Reply, texts}
-use Rattle.lt_line.specs.Held.{kept_of}
+use Rattle.lt_line.specs.Held.{HeldLine, kept_of}
 use Rattle.lt_line.specs.Waiting.{Waiting, nothing_waits}
 use Rattle.lt_store.specs.Open.{StoreView, IsOpen, IsRooted, Rests}
 use Rattle.lt_store.proofs.GoLaws.{open-rests}
@@ -34,6 +34,7 @@ use Rattle.lt_serve.specs.Sending.{Sends}
 use Rattle.lt_serve.specs.Serving.{Reached, Over, SteppedOn, SteppedOver}
 use Rattle.lt_serve.proofs.LineLaws.{commands-append, rest_of-append}
 use Rattle.lt_serve.proofs.OverLaws.{since-more, open-has, rests-later, shows, lines-answered}
+use Rattle.lt_serve.proofs.RoundLaws.{no-first, no-second, stopped-order}
 use Rattle.lt_serve.proofs.RunLaws.{runs-more, runs-counts, ok_count-append, texts-append}
 use Rattle.lt_serve.proofs.ShownLaws.{acknowledged-append}
 
@@ -60,6 +61,7 @@ pub record PieceStopped (e : ℕ) (durable : State) (bytes : List ℕ) (status :
   pub at_exit : (left : Image) → MayLeave new left → IsPrefix left durable writes (ok_count shown)
   pub rests : status ≡ served.NoMemory → (sure : ℕ) × Rests (after_writes durable (take sure writes)) new
   pub rests_all : IsSettled status → Rests (after_writes durable writes) new
+  pub quiet : IsSettled status → writes ≡ [] → new ≡ old
 
 -- the settled text of a round is that of its replies
 told-text : (e : ℕ) (s : State) (bytes kept : List ℕ) (waiting : Waiting) (w : StoreView) (old new : told.State) (p : Round e s bytes kept nothing_waits waiting w old new) → waiting.settled_text ≡ texts p.replies
@@ -88,6 +90,7 @@ piece-untold e s bytes more kept waiting0 waiting unsent w count stands0 stands 
       at_exit = open-has w s p.writes (ok_count p.replies) new p.opened (runs-counts e s (commands bytes) p.replies p.writes p.runs);
       rests = λ short. absurd (cc (short));
       rests_all = λ settled. open-rests w (after_writes s p.writes) new p.opened;
+      quiet = λ settled. p.quiet;
     }
 
 -- what the sink took of some text, all of it where its count did not rise
@@ -133,21 +136,22 @@ was-short (faults.Damaged block) same = absurd (cc (same))
 was-short faults.NoMemory same = refl
 
 -- the round failed
-pub piece-stopped : (e : ℕ) (s : State) (bytes : List ℕ) (fault : RoundFault) (waiting unsent : Waiting) (stands0 stands : List ℕ → Type 0) (faults0 faults : ℕ) (old new : told.State) (result : Result (Unit {0}) Failed) → Stopped e s bytes fault [] waiting.settled_text old new
+pub piece-stopped : (e : ℕ) (s : State) (bytes : List ℕ) (held : HeldLine) (fault : RoundFault) (waiting0 waiting unsent : Waiting) (stands0 stands : List ℕ → Type 0) (faults0 faults : ℕ) (old new : told.State) (result : Result (Unit {0}) Failed) → waiting0.settled_text ≡ [] → Stopped e s bytes held fault waiting0 waiting.settled_text old new
     → OnOk result (Sends (length waiting.settled_text) stands0 stands waiting unsent) → OnErr result ((count : ℕ) × Sends count stands0 stands waiting unsent) → HasCause faults0 faults result → PieceStopped e s bytes (served_of fault) stands0 stands faults0 faults old new
-piece-stopped e s bytes fault waiting unsent stands0 stands faults0 faults old new result p all front cause =
+piece-stopped e s bytes held fault waiting0 waiting unsent stands0 stands faults0 faults old new result none p all front cause =
     let t = told-of result stands0 stands faults0 faults waiting unsent all front cause in
+    let o = stopped-order e s bytes held fault waiting0 waiting.settled_text old new p in
     record {
       acted = p.acted;
-      others = p.others;
-      order = p.order;
+      others = o.0;
+      order = o.1;
       shown = p.shown;
       hidden = p.hidden;
       writes = p.writes;
       runs = p.runs;
       output = t.output;
       behind = t.behind;
-      text = sym p.text ∙ t.whole;
+      text = sym (p.text ∙ ap (λ xs. xs ++ texts p.shown) none) ∙ t.whole;
       gained = t.gained;
       halt = halts fault p.lost;
       whole = λ inner. t.all;
@@ -156,6 +160,7 @@ piece-stopped e s bytes fault waiting unsent stands0 stands faults0 faults old n
       at_exit = λ left may. subst (λ (k : ℕ). IsPrefix left s p.writes k) (sym p.unwritten) (p.since.now left may);
       rests = λ short. p.rests (was-short fault short);
       rests_all = λ settled. absurd (not-settled fault settled);
+      quiet = λ settled. absurd (not-settled fault settled);
     }
 
 -- ---- behind what was reached
@@ -193,6 +198,7 @@ module _ (e : ℕ) (before : State) (input output kept : List ℕ) (w : StoreVie
     opened = let joined : after_writes (after_writes before r.writes) p.writes ≡ after_writes before (r.writes ++ p.writes) = writes-joined before r.writes p.writes in subst (λ (t : State). IsOpen x t new) joined p.opened;
     since = since-more before r.writes p.writes start mid new r.since p.since;
     rooted = rooted-joins start mid new p.rooted r.rooted;
+    quiet = λ none. p.quiet (no-second r.writes p.writes none) ∙ r.quiet (no-first r.writes p.writes none);
   }
 
   -- and all of it was told
@@ -242,6 +248,7 @@ module _ (e : ℕ) (before : State) (input output kept : List ℕ) (w : StoreVie
             (prefix-later left before r.writes p.writes (ok_count p.shown) (p.at_exit left may));
         rests = λ none. rests-later before r.writes p.writes new (p.rests none);
         rests_all = λ settled. let joined : after_writes (after_writes before r.writes) p.writes ≡ after_writes before (r.writes ++ p.writes) = writes-joined before r.writes p.writes in subst (λ (t : State). Rests t new) joined (p.rests_all settled);
+        quiet = λ settled none. p.quiet settled (no-second r.writes p.writes none) ∙ r.quiet (no-first r.writes p.writes none);
       }
 
   -- and some of it was told
@@ -270,6 +277,7 @@ over-earlier e before status input output first faults0 faults start new le o = 
   at_exit = o.at_exit;
   rests = o.rests;
   rests_all = o.rests_all;
+  quiet = o.quiet;
 }
 
 -- nothing was stepped yet

@@ -1,18 +1,19 @@
 -- A round goes on by a part of a line, by a line, and by a commit; and it fails.
-use Rattle.std.proofs.Common.{◌≡◌, ◌≢◌, ℕ, ◌+◌, ◌-◌, refl, sym, ap, subst, ◌∙◌, List, [], ◌∷◌, ◌++◌, take, drop, length, length-append, append_assoc, append-nil, take-add, take-append-drop, Bool, true, false, ◌||◌, cond, arith}
+use Rattle.std.proofs.Common.{◌≡◌, ◌≢◌, ℕ, ◌+◌, ◌-◌, ◌<◌, zero, suc, refl, sym, ap, subst, ◌∙◌, List, [], ◌∷◌, ◌++◌, map, take, drop, length, length-append, append_assoc, append-nil, take-add, take-append-drop, Bool, true, false, ◌||◌, cond, inl, inr, arith}
 use Rattle.std.specs.Bool.{IsFalse}
-use Rattle.std.proofs.lemmas.Bool.{false≢true}
+use Rattle.std.proofs.lemmas.Bool.{cases_Bool, false≢true}
+use Rattle.std.proofs.lemmas.List.{map-append}
 use Rattle.lt_terms.specs.Items.{Item}
 use Rattle.lt_device.specs.Moments.{Leaves}
 use Rattle.lt_device.specs.State as told
 use Rattle.lt_image.specs.Standing.{IsPrefix, after_writes}
 use Rattle.lt_image.proofs.KeptLaws.{no_writes, writes-joined}
 use Rattle.lt_language.specs.Commands.{Command, command_of, commands}
-use Rattle.lt_language.specs.Lines.{line_feed, has_line_feed, rest_of}
+use Rattle.lt_language.specs.Lines.{line_feed, has_line_feed, lines_of, rest_of}
 use Rattle.lt_language.specs.Machine.{State}
 use Rattle.lt_language.specs.Replies as replies
 use Rattle.lt_language.specs.Replies.{Reply, text, texts}
-use Rattle.lt_line.specs.Held.{kept_of}
+use Rattle.lt_line.specs.Held.{HeldLine, kept_of}
 use Rattle.lt_line.specs.Waiting.{Waiting, all_settled}
 use Rattle.lt_line.proofs.HeldLaws.{kept_of-append, kept_of-none}
 use Rattle.lt_store.specs.Going.{Goes, Survives}
@@ -22,9 +23,9 @@ use Rattle.lt_store.proofs.RootedLaws.{rooted-joins, rooted-none}
 use Rattle.lt_serve.specs.declared.faults.RoundFault.{RoundFault}
 use Rattle.lt_serve.specs.declared.faults.RoundFault.TheVariants as faults
 use Rattle.lt_serve.specs.Acting.{Answered, Answers, Lost, settled_unless}
-use Rattle.lt_serve.specs.Rounds.{Committed, Round, Stopped, StartWithOk, Went, all_text}
+use Rattle.lt_serve.specs.Rounds.{AtCommit, AtLine, Committed, Round, Stopped, StartWithOk, Went, all_text}
 use Rattle.lt_serve.specs.Runs.{Runs, is_ok, ok_count}
-use Rattle.lt_serve.proofs.LineLaws.{commands-append, commands-unbroken, commands-ended, rest_of-unbroken, rest_of-ended}
+use Rattle.lt_serve.proofs.LineLaws.{commands-append, commands-unbroken, commands-ended, lines-ended, rest_of-unbroken, rest_of-ended}
 use Rattle.lt_serve.proofs.RunLaws.{ok_count-append, ok_count-cons, runs-more, runs-none, texts-append}
 
 -- ---- replies that wait
@@ -63,6 +64,24 @@ start-more wrote (x ∷ hidden) r some is start = start-behind x hidden (r ∷ [
 start-more true [] r some is start = absurd (some refl refl)
 start-more false [] r some is start = start-one r is
 
+-- ---- where no write was taken
+
+pub no-first : (xs ys : List Item) → xs ++ ys ≡ [] → xs ≡ []
+no-first [] ys none = refl
+no-first (x ∷ xs) ys none = absurd (cc (none))
+
+pub no-second : (xs ys : List Item) → xs ++ ys ≡ [] → ys ≡ []
+no-second [] ys none = none
+no-second (x ∷ xs) ys none = absurd (cc (none))
+
+no-rest : (n : ℕ) → drop {A = Item} n [] ≡ []
+no-rest zero = refl
+no-rest (suc n) = refl
+
+-- nothing is pending still
+still-idle : (v w : StoreView) (durable : State) (writes : List Item) (old new : told.State) → Goes v writes w durable old new → v.log.pending ≡ [] → writes ≡ [] → w.log.pending ≡ []
+still-idle v w durable writes old new goes idle none = goes.pending ∙ ap (λ xs. drop goes.sure (xs ++ writes)) idle ∙ ap (drop goes.sure) none ∙ no-rest goes.sure
+
 -- ---- acting goes on
 
 -- nothing was taken yet
@@ -82,6 +101,7 @@ went-none v durable rest kept waiting s opened free line none = record {
   some = λ is. absurd (false≢true is);
   goes = goes-none v durable s opened;
   rooted = rooted-none v durable s opened;
+  quiet = λ idle none. refl;
 }
 
 -- the unfinished line goes on
@@ -102,6 +122,7 @@ went-on v durable bytes chunk kept kept' wrote waiting0 waiting w old new went f
   some = went.some;
   goes = went.goes;
   rooted = went.rooted;
+  quiet = went.quiet;
 }
 
 -- what is kept of the line that ends here
@@ -137,6 +158,11 @@ module _ (v : StoreView) (durable : State) (bytes chunk kept : List ℕ) (wrote0
   rooted-further : (wrote : Bool) → Line wrote → Leaves IsRooted old new
   rooted-further wrote a = rooted-joins old mid new a.rooted went.rooted
 
+  quiet-further : (wrote : Bool) (a : Line wrote) → v.log.pending ≡ [] → went.writes ++ a.writes ≡ [] → new ≡ old
+  quiet-further wrote a idle none =
+      let first : went.writes ≡ [] = no-first went.writes a.writes none in
+      a.quiet (still-idle v w durable went.writes old mid went.goes idle first) (no-second went.writes a.writes none) ∙ went.quiet idle first
+
   line-further : [] ≡ kept_of (rest_of (bytes ++ (chunk ++ line_feed ∷ [])))
   line-further = sym kept_of-none ∙ ap kept_of (sym (rest_of-ended bytes chunk free))
 
@@ -166,6 +192,7 @@ module _ (v : StoreView) (durable : State) (bytes chunk kept : List ℕ) (wrote0
         some = λ is. absurd (false≢true is);
         goes = goes-further false a;
         rooted = rooted-further false a;
+        quiet = quiet-further false a;
       }
 
   -- a write was taken, and the reply waits
@@ -187,6 +214,7 @@ module _ (v : StoreView) (durable : State) (bytes chunk kept : List ℕ) (wrote0
         some = λ yes. some-more went.hidden a.reply;
         goes = goes-further true a;
         rooted = rooted-further true a;
+        quiet = quiet-further true a;
       }
 
   either : (wrote before : Bool) → before ≡ wrote0 → (a : Line wrote) → wrote ≡ (before || is_ok a.reply) → extents_of w ≡ extents_of v → Further wrote
@@ -217,17 +245,25 @@ module _ (v : StoreView) (durable : State) (bytes kept : List ℕ) (wrote : Bool
       (ap (λ xs. after_writes (after_writes durable first) (take n xs)) went.goes.pending ∙ writes-joined durable first (take n (drop went.goes.sure all))
       ∙ ap (after_writes durable) (sym (take-add went.goes.sure n all)) ∙ ap (λ xs. after_writes durable (take (went.goes.sure + n) xs)) all_are) rests
 
+  joined : texts (went.shown ++ went.hidden) ≡ texts went.shown ++ texts went.hidden
+  joined = texts-append went.shown went.hidden
+
+  long : length (texts (went.shown ++ went.hidden)) ≡ length (texts went.shown) + length (texts went.hidden)
+  long = ap length joined ∙ length-append (texts went.shown) (texts went.hidden)
+
   -- what follows these bytes was not acted
-  pub stopped-after : (more settled : List ℕ) (fault : RoundFault) (new : told.State) → Lost w (after_writes durable (take went.goes.sure (v.log.pending ++ went.writes))) fault mid new → settled ≡ waiting.settled_text
-      → Stopped (extents_of v) durable (bytes ++ more) fault waiting0.settled_text settled old new
-  stopped-after more settled fault new lost is = record {
+  stopped : (all settled : List ℕ) (held : HeldLine) (fault : RoundFault) (new : told.State) → Lost w (after_writes durable (take went.goes.sure (v.log.pending ++ went.writes))) fault mid new → settled ≡ waiting.settled_text
+      → (held.is_ended ≡ true → AtLine all held.kept (commands bytes)) → (held.is_ended ≡ false → AtCommit all held.kept (commands bytes) (waiting0.room - length (texts (went.shown ++ went.hidden))))
+      → Stopped (extents_of v) durable all held fault waiting0 settled old new
+  stopped all settled held fault new lost is at_line at_commit = record {
     acted = commands bytes;
-    others = commands (rest_of bytes ++ more);
-    order = sym (commands-append bytes more);
     shown = went.shown;
     hidden = went.hidden;
     writes = went.writes;
     runs = runs-durable;
+    fits = omega (arith, went.room, long);
+    at_line = at_line;
+    at_commit = at_commit;
     text = is ∙ went.settled;
     unwritten = went.unwritten;
     first = went.first;
@@ -237,27 +273,73 @@ module _ (v : StoreView) (durable : State) (bytes kept : List ℕ) (wrote : Bool
     rests = λ short. let r = lost.rests short in (went.goes.sure + r.0, rests-first r.0 new r.1);
   }
 
+  -- the event of the line that ended failed
+  pub stopped-line : (chunk more settled : List ℕ) (held : HeldLine) (fault : RoundFault) (new : told.State) → Lost w (after_writes durable (take went.goes.sure (v.log.pending ++ went.writes))) fault mid new → settled ≡ waiting.settled_text
+      → IsFalse (has_line_feed chunk) → held.is_ended ≡ true → held.kept ≡ kept_of (kept ++ chunk) → Stopped (extents_of v) durable (bytes ++ ((chunk ++ line_feed ∷ []) ++ more)) held fault waiting0 settled old new
+  stopped-line chunk more settled held fault new lost is free ended kept_is = stopped (bytes ++ ((chunk ++ line_feed ∷ []) ++ more)) settled held fault new lost is
+      (λ same. record {
+        before = lines_of bytes;
+        line = rest_of bytes ++ chunk;
+        after = lines_of (rest_of (bytes ++ (chunk ++ line_feed ∷ [])) ++ more);
+        lines = lines-ended bytes chunk more free;
+        acted_are = refl;
+        held = kept-line v durable bytes chunk kept held.kept wrote waiting0 waiting w old mid went kept_is;
+      })
+      (λ not. absurd (false≢true (sym not ∙ ended)))
+
+  -- the commit failed
+  pub stopped-commit : (more settled : List ℕ) (held : HeldLine) (fault : RoundFault) (new : told.State) → Lost w (after_writes durable (take went.goes.sure (v.log.pending ++ went.writes))) fault mid new → settled ≡ waiting.settled_text
+      → held.is_ended ≡ false → held.kept ≡ kept → (more ≢ [] → waiting.room < 3007) → Stopped (extents_of v) durable (bytes ++ more) held fault waiting0 settled old new
+  stopped-commit more settled held fault new lost is open_line kept_is short = stopped (bytes ++ more) settled held fault new lost is
+      (λ ended. absurd (false≢true (sym open_line ∙ ended)))
+      (λ same. record {
+        taken = bytes;
+        rest = more;
+        split = refl;
+        acted_are = refl;
+        held = kept_is ∙ went.line;
+        short = λ some. omega (arith, short some, went.room, long);
+      })
+
   -- all writes are durable
-  pub committed-after : (x : StoreView) (new : told.State) → Goes w [] x (after_writes durable (take went.goes.sure (v.log.pending ++ went.writes))) mid new → Leaves IsRooted mid new → x.log.pending ≡ [] → Committed (extents_of v) durable bytes kept waiting0 waiting x old new
-  committed-after x new commit rooted none =
+  pub committed-after : (x : StoreView) (new : told.State) → Goes w [] x (after_writes durable (take went.goes.sure (v.log.pending ++ went.writes))) mid new → Leaves IsRooted mid new → (w.log.pending ≡ [] → new ≡ mid) → x.log.pending ≡ [] → Committed (extents_of v) durable bytes kept waiting0 waiting x old new
+  committed-after x new commit rooted idle none =
       let g = goes-behind v w went.writes durable old mid went.goes x [] new commit in
       let given : List Item = v.log.pending ++ (went.writes ++ []) in
       let given_are : given ≡ went.writes = ap (λ xs. v.log.pending ++ xs) (append-nil went.writes) ∙ all_are in
       let whole : take g.sure given ≡ went.writes = sym (append-nil (take g.sure given)) ∙ ap (λ xs. take g.sure given ++ xs) (sym none ∙ g.pending) ∙ take-append-drop g.sure given ∙ given_are in
-      let joined : texts (went.shown ++ went.hidden) ≡ texts went.shown ++ texts went.hidden = texts-append went.shown went.hidden in
-      let long : length (texts (went.shown ++ went.hidden)) ≡ length (texts went.shown) + length (texts went.hidden) = ap length joined ∙ length-append (texts went.shown) (texts went.hidden) in
       record {
         replies = went.shown ++ went.hidden;
         writes = went.writes;
         runs = runs-durable;
         line = went.line;
-        fits = omega (arith, went.room);
+        fits = omega (arith, went.room, long);
         told = ap (λ s. s ++ waiting.pending_text) went.settled ∙ append_assoc waiting0.settled_text (texts went.shown) waiting.pending_text ∙ ap (λ t. waiting0.settled_text ++ t) (ap (λ t. texts went.shown ++ t) went.pending ∙ sym joined);
-        room = omega (arith, went.room);
+        room = omega (arith, went.room, long);
         opened = subst (λ xs. IsOpen x (after_writes durable xs) new) whole g.opened;
         since = subst (λ xs. Leaves (λ left. IsPrefix left durable xs 0) old new) given_are g.survives;
         rooted = rooted-joins old mid new rooted went.rooted;
+        quiet = λ unwritten. idle (still-idle v w durable went.writes old mid went.goes nothing unwritten) ∙ went.quiet nothing unwritten;
       }
+
+-- the lines that were acted are the first of all
+line-order : (bytes kept : List ℕ) (acted : List Command) → AtLine bytes kept acted → (others : List Command) × (acted ++ others ≡ commands bytes)
+line-order bytes kept acted a = (
+  map command_of (a.line ∷ a.after),
+  ap (λ cs. cs ++ map command_of (a.line ∷ a.after)) a.acted_are ∙ sym (map-append command_of a.before (a.line ∷ a.after)) ∙ ap (map command_of) (sym a.lines),
+)
+
+commit-order : (bytes kept : List ℕ) (acted : List Command) (left : ℕ) → AtCommit bytes kept acted left → (others : List Command) × (acted ++ others ≡ commands bytes)
+commit-order bytes kept acted left a = (
+  commands (rest_of a.taken ++ a.rest),
+  ap (λ cs. cs ++ commands (rest_of a.taken ++ a.rest)) a.acted_are ∙ sym (commands-append a.taken a.rest) ∙ ap commands (sym a.split),
+)
+
+pub stopped-order : (e : ℕ) (durable : State) (bytes : List ℕ) (held : HeldLine) (fault : RoundFault) (waiting0 : Waiting) (settled : List ℕ) (old new : told.State) → (p : Stopped e durable bytes held fault waiting0 settled old new) → (others : List Command) × (p.acted ++ others ≡ commands bytes)
+stopped-order e durable bytes held fault waiting0 settled old new p = elim (cases_Bool held.is_ended) [
+  | inl ended ↦ line-order bytes held.kept p.acted (p.at_line ended)
+  | inr open_line ↦ commit-order bytes held.kept p.acted (waiting0.room - length (texts (p.shown ++ p.hidden))) (p.at_commit open_line)
+]
 
 -- a commit that failed
 pub lost-commit : (w : StoreView) (durable : State) (old new : told.State) → Survives w [] durable old new → Leaves IsRooted old new → Lost w durable faults.Device old new
@@ -276,6 +358,7 @@ round-settled e durable bytes kept waiting0 waiting waiting' w old new c is = re
   opened = c.opened;
   since = c.since;
   rooted = c.rooted;
+  quiet = c.quiet;
 }
 
 -- ---- a line
@@ -289,6 +372,7 @@ answered-line v w durable command wrote0 wrote taken waiting0 waiting waiting' o
   runs = a.runs;
   goes = a.goes;
   rooted = a.rooted;
+  quiet = a.quiet;
   wrote_is = is ∙ ap (λ b. wrote0 || b) a.taken_is;
   fits = a.fits;
   told = settled ∙ ap (settled_unless wrote) a.told;

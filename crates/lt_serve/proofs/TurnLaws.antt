@@ -162,6 +162,7 @@ reached-none e before kept w s none opened = record {
   opened = subst (λ (t : State). IsOpen w t s) (sym (no_writes before)) opened;
   since = begins s (λ left may. prefix-none left before [] (opened.rest.each left may));
   rooted = rooted-none w before s opened;
+  quiet = λ none. refl;
 }
 
 -- a run that took nothing yet
@@ -250,6 +251,7 @@ over-unopened e before status faults0 faults s r =
       at_exit = λ left may. prefix-none left before [] (r.rest.each left may);
       rests = λ short. (0, rests);
       rests_all = λ settled. rests;
+      quiet = λ settled none. refl;
     }
 
 -- nothing was served: the device is as it was

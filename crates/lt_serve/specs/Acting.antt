@@ -23,6 +23,8 @@ pub record Answers (v : StoreView) (durable : State) (command : Command) (taken 
   pub goes : Goes v writes w durable old new
   -- each image since names the root alone
   pub rooted : Leaves IsRooted old new
+  -- where nothing was pending and no write was taken, the device is as before
+  pub quiet : v.log.pending ≡ [] → writes ≡ [] → new ≡ old
   pub taken_is : taken ≡ is_ok reply
   pub fits : length (text reply) ≤ waiting0.room
   pub told : waiting ≡ with_text waiting0 (text reply)
@@ -48,6 +50,8 @@ pub record Answered (v : StoreView) (durable : State) (command : Command) (wrote
   pub goes : Goes v writes w durable old new
   -- each image since names the root alone
   pub rooted : Leaves IsRooted old new
+  -- where nothing was pending and no write was taken, the device is as before
+  pub quiet : v.log.pending ≡ [] → writes ≡ [] → new ≡ old
   pub wrote_is : wrote ≡ (wrote0 || is_ok reply)
   pub fits : length (text reply) ≤ waiting0.room
   pub told : waiting ≡ settled_unless wrote (with_text waiting0 (text reply))

@@ -1,15 +1,15 @@
 -- What a round makes of the lines of a piece.
-use Rattle.std.specs.Prelude.{◌≡◌, ◌≢◌, ℕ, ◌+◌, ◌-◌, ◌≤◌, Bool, true, false, List, [], ◌∷◌, ◌++◌, take, length}
+use Rattle.std.specs.Prelude.{◌≡◌, ◌≢◌, ℕ, ◌+◌, ◌-◌, ◌<◌, ◌≤◌, Bool, true, false, List, [], ◌∷◌, ◌++◌, map, take, length}
 use Rattle.lt_terms.specs.Items.{Item}
 use Rattle.lt_device.specs.Moments.{Leaves}
 use Rattle.lt_device.specs.State as told
 use Rattle.lt_image.specs.Standing.{IsPrefix, after_writes}
-use Rattle.lt_language.specs.Commands.{Command, commands}
-use Rattle.lt_language.specs.Lines.{rest_of}
+use Rattle.lt_language.specs.Commands.{Command, command_of, commands}
+use Rattle.lt_language.specs.Lines.{lines_of, rest_of}
 use Rattle.lt_language.specs.Machine.{State}
 use Rattle.lt_language.specs.Replies as replies
 use Rattle.lt_language.specs.Replies.{Reply, texts}
-use Rattle.lt_line.specs.Held.{kept_of}
+use Rattle.lt_line.specs.Held.{HeldLine, kept_of}
 use Rattle.lt_line.specs.Waiting.{Waiting}
 use Rattle.lt_store.specs.Going.{Goes}
 use Rattle.lt_store.specs.Open.{StoreView, IsOpen, IsRooted, Rests, extents_of, state_of}
@@ -18,7 +18,7 @@ use Rattle.lt_serve.specs.declared.faults.RoundFault.TheVariants as faults
 use Rattle.lt_serve.specs.Faults.{IsLost}
 use Rattle.lt_serve.specs.Runs.{Runs, ok_count}
 
--- none, or the first of them is an `OK`
+-- there are none, or the first of them is an `OK`
 abbrev pub StartWithOk : List Reply → Type 0
 StartWithOk [] = Unit {0}
 StartWithOk (replies.ok ∷ rest) = Unit {0}
@@ -45,6 +45,8 @@ pub record Went (v : StoreView) (durable : State) (bytes kept : List ℕ) (wrote
   pub goes : Goes v writes w durable old new
   -- each image since names the root alone
   pub rooted : Leaves IsRooted old new
+  -- where nothing was pending and no write was taken, the device is as before
+  pub quiet : v.log.pending ≡ [] → writes ≡ [] → new ≡ old
 
 -- A round that took the bytes: all their lines were answered, the replies are settled, and all writes are durable.
 pub record Round (e : ℕ) (durable : State) (bytes kept : List ℕ) (waiting0 waiting : Waiting) (w : StoreView) (old new : told.State) : Type 0 where
@@ -58,6 +60,8 @@ pub record Round (e : ℕ) (durable : State) (bytes kept : List ℕ) (waiting0 w
   pub since : Leaves (λ left. IsPrefix left durable writes 0) old new
   -- each image since names the root alone
   pub rooted : Leaves IsRooted old new
+  -- where no write was taken, the device is as before
+  pub quiet : writes ≡ [] → new ≡ old
 
 -- The same before its replies are settled; those before its first write that was taken are.
 pub record Committed (e : ℕ) (durable : State) (bytes kept : List ℕ) (waiting0 waiting : Waiting) (w : StoreView) (old new : told.State) : Type 0 where
@@ -72,17 +76,39 @@ pub record Committed (e : ℕ) (durable : State) (bytes kept : List ℕ) (waitin
   pub since : Leaves (λ left. IsPrefix left durable writes 0) old new
   -- each image since names the root alone
   pub rooted : Leaves IsRooted old new
+  -- where no write was taken, the device is as before
+  pub quiet : writes ≡ [] → new ≡ old
 
--- A round that failed within the bytes: the replies before its first write that was taken are settled, and no other.
-pub record Stopped (e : ℕ) (durable : State) (bytes : List ℕ) (fault : RoundFault) (settled0 settled : List ℕ) (old new : told.State) : Type 0 where
+-- The event of a line failed: the line that is held is one of the bytes' lines, and those before it were acted.
+pub record AtLine (bytes kept : List ℕ) (acted : List Command) : Type 0 where
+  pub before : List (List ℕ)
+  pub line : List ℕ
+  pub after : List (List ℕ)
+  pub lines : lines_of bytes ≡ before ++ line ∷ after
+  pub acted_are : acted ≡ map command_of before
+  pub held : kept ≡ kept_of line
+
+-- The commit failed: all lines of the bytes that were taken were acted, and these are all bytes, unless fewer than 3,007 bytes of room were left.
+pub record AtCommit (bytes kept : List ℕ) (acted : List Command) (left : ℕ) : Type 0 where
+  pub taken : List ℕ
+  pub rest : List ℕ
+  pub split : bytes ≡ taken ++ rest
+  pub acted_are : acted ≡ commands taken
+  pub held : kept ≡ kept_of (rest_of taken)
+  pub short : rest ≢ [] → left < 3007
+
+-- A round that failed within the bytes: the lines before the one that is held were acted, the replies before their first write that was taken are settled, and no other.
+pub record Stopped (e : ℕ) (durable : State) (bytes : List ℕ) (held : HeldLine) (fault : RoundFault) (waiting0 : Waiting) (settled : List ℕ) (old new : told.State) : Type 0 where
   pub acted : List Command
-  pub others : List Command
-  pub order : acted ++ others ≡ commands bytes
   pub shown : List Reply
   pub hidden : List Reply
   pub writes : List Item
   pub runs : Runs e durable acted (shown ++ hidden) writes
-  pub text : settled ≡ settled0 ++ texts shown
+  pub fits : length (texts (shown ++ hidden)) ≤ waiting0.room
+  -- it failed at the line that is held where that has ended, and else at the commit
+  pub at_line : held.is_ended ≡ true → AtLine bytes held.kept acted
+  pub at_commit : held.is_ended ≡ false → AtCommit bytes held.kept acted (waiting0.room - length (texts (shown ++ hidden)))
+  pub text : settled ≡ waiting0.settled_text ++ texts shown
   pub unwritten : ok_count shown ≡ 0
   pub first : StartWithOk hidden
   -- each image since holds first writes of these, behind all that was durable

@@ -30,6 +30,8 @@ pub record Reached (e : ℕ) (before : State) (input output kept : List ℕ) (w 
   pub since : Leaves (λ left. IsPrefix left before writes 0) old new
   -- each image since names the root alone
   pub rooted : Leaves IsRooted old new
+  -- where no write was taken, the device is as before
+  pub quiet : writes ≡ [] → new ≡ old
 
 -- the text of so many first replies stands whole in the output
 pub record ShowsFirst (count : ℕ) (replies : List Reply) (output : List ℕ) : Type 0 where
@@ -66,6 +68,8 @@ pub record Over (e : ℕ) (before : State) (status : Served) (input output : Lis
   -- but for a fault of the device it is at rest: with all writes, or where memory was short with the first of them
   pub rests : status ≡ served.NoMemory → (sure : ℕ) × Rests (after_writes before (take sure writes)) new
   pub rests_all : IsSettled status → Rests (after_writes before writes) new
+  -- and as before where no write was taken
+  pub quiet : IsSettled status → writes ≡ [] → new ≡ old
 
 -- the sink took some bytes
 pub record GainsSome (stands0 stands : List ℕ → Type 0) : Type 0 where

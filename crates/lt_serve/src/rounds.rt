@@ -8,11 +8,11 @@ ghost use Rattle.lt_language.specs.Commands.{command_of};
 ghost use Rattle.lt_language.specs.Lines.{has_line_feed};
 ghost use Rattle.lt_language.specs.Machine.{State};
 ghost use Rattle.lt_line.specs.Held.{kept_of};
-ghost use Rattle.lt_line.specs.Waiting.{Waiting};
+ghost use Rattle.lt_line.specs.Waiting.{Waiting, all_settled};
 ghost use Rattle.lt_store.specs.Damage.{StopsGet};
 ghost use Rattle.lt_store.specs.Open.{IsOpen, StoreView, blocks_of, extents_of};
 ghost use Rattle.lt_serve.specs.Acting.{Answered, Lost};
-ghost use Rattle.lt_serve.specs.Rounds.{Committed, Round, Stopped, Went, all_text};
+ghost use Rattle.lt_serve.specs.Rounds.{Committed, Round, Stopped, Went};
 ghost use Rattle.lt_serve.specs.View.{kept_in, store_in};
 
 use crate::acting::act_command;
@@ -30,8 +30,9 @@ impl Session {
     /// bytes it took: all of the piece, unless fewer than 3,007 bytes of room are left behind the replies.
     ///
     /// No reply is settled before the writes that were taken before it are durable. Text that waited
-    /// before the round is settled with it. Where a round fails, the replies to the lines before its
-    /// first write that was taken are settled, all others are dropped, and the session is over.
+    /// before the round is settled with it. Where a round fails, all lines before the one that failed
+    /// were acted, the replies before their first write that was taken are settled, all others are
+    /// dropped, and the session is over.
     pub fn round<D: Device>(
         &mut self,
         alloc: Global,
@@ -47,7 +48,7 @@ impl Session {
         ensures ok { IfOk result (λ n. (durable : State) (line : List ℕ) → IsOpen (store_in self.old) durable (D.state device.old) → IsFalse (has_line_feed line) → kept_in self.old ≡ kept_of line
             → Round (extents_of (store_in self.old)) durable (line ++ take n piece.now) (kept_in self.new) out.old out.new (store_in self.new) (D.state device.old) (D.state device.new)) }
         ensures err { IfErr result (λ fault. (durable : State) (line : List ℕ) → IsOpen (store_in self.old) durable (D.state device.old) → IsFalse (has_line_feed line) → kept_in self.old ≡ kept_of line
-            → Stopped (extents_of (store_in self.old)) durable (line ++ piece.now) fault (all_text out.old) out.new.settled_text (D.state device.old) (D.state device.new)) }
+            → Stopped (extents_of (store_in self.old)) durable (line ++ piece.now) self.new.lines fault (all_settled out.old) out.new.settled_text (D.state device.old) (D.state device.new)) }
 
         // On any device.
         ensures within { IfOk result (λ n. n ≤ length piece.now) }
@@ -99,7 +100,7 @@ impl Session {
         ensures ok { IfOk result (λ n. (durable : State) (line : List ℕ) → IsOpen (store_in self.old) durable (D.state device.old) → IsFalse (has_line_feed line) → kept_in self.old ≡ kept_of line
             → Committed (extents_of (store_in self.old)) durable (line ++ take n piece.now) (kept_in self.new) out.old out.new (store_in self.new) (D.state device.old) (D.state device.new)) }
         ensures err { IfErr result (λ fault. (durable : State) (line : List ℕ) → IsOpen (store_in self.old) durable (D.state device.old) → IsFalse (has_line_feed line) → kept_in self.old ≡ kept_of line
-            → Stopped (extents_of (store_in self.old)) durable (line ++ piece.now) fault out.old.settled_text out.new.settled_text (D.state device.old) (D.state device.new)) }
+            → Stopped (extents_of (store_in self.old)) durable (line ++ piece.now) self.new.lines fault out.old out.new.settled_text (D.state device.old) (D.state device.new)) }
 
         ensures within { IfOk result (λ n. n ≤ length piece.now) }
         ensures some { IfOk result (λ n. 0 < length piece.now → 0 < n) }
@@ -140,7 +141,7 @@ impl Session {
         ensures ok { IfOk result (λ n. (durable : State) (line : List ℕ) → IsOpen (store_in self.old) durable (D.state device.old) → IsFalse (has_line_feed line) → kept_in self.old ≡ kept_of line
             → Went (store_in self.old) durable (line ++ take n piece.now) (kept_in self.new) self.new.wrote out.old out.new (store_in self.new) (D.state device.old) (D.state device.new)) }
         ensures err { IfErr result (λ fault. (durable : State) (line : List ℕ) → IsOpen (store_in self.old) durable (D.state device.old) → IsFalse (has_line_feed line) → kept_in self.old ≡ kept_of line
-            → Stopped (extents_of (store_in self.old)) durable (line ++ piece.now) fault out.old.settled_text out.new.settled_text (D.state device.old) (D.state device.new)) }
+            → Stopped (extents_of (store_in self.old)) durable (line ++ piece.now) self.new.lines fault out.old out.new.settled_text (D.state device.old) (D.state device.new)) }
 
         ensures within { IfOk result (λ n. n ≤ length piece.now) }
         ensures some { IfOk result (λ n. 0 < length piece.now → 0 < n) }
@@ -183,7 +184,7 @@ impl Session {
             → Went v durable (bytes ++ take n piece.now) (kept_in self.new) self.new.wrote waiting0 out.new (store_in self.new) start (D.state device.new)) }
         ensures err { IfErr result (λ fault. (v : StoreView) (durable : State) (bytes : List ℕ) (waiting0 : Waiting) (start : told.State) → IsOpen v durable start → extents_of (store_in self.old) ≡ extents_of v → v.log.pending ≡ []
             → Went v durable bytes (kept_in self.old) self.old.wrote waiting0 out.old (store_in self.old) start (D.state device.old)
-            → Stopped (extents_of v) durable (bytes ++ piece.now) fault waiting0.settled_text out.new.settled_text start (D.state device.new)) }
+            → Stopped (extents_of v) durable (bytes ++ piece.now) self.new.lines fault waiting0 out.new.settled_text start (D.state device.new)) }
 
         ensures within { IfOk result (λ n. n ≤ length piece.now) }
         ensures some { IfOk result (λ n. 0 < n) }
@@ -222,6 +223,7 @@ impl Session {
         ensures err { IfErr result (λ fault. (durable : State) → IsOpen (store_in self.old) durable (D.state device.old)
             → Lost (store_in self.old) durable fault (D.state device.old) (D.state device.new)) }
         ensures untold { OnErr result (out.new ≡ out.old) }
+        ensures held { OnErr result (self.new.lines ≡ self.old.lines) }
 
         ensures next { OnOk result (self.new.lines ≡ record { kept = []; is_ended = false }) }
         ensures down { self.new.is_up ≡ false }

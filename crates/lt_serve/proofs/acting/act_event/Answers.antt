@@ -1,4 +1,4 @@
-use Rattle.std.proofs.Common.{rules, sym, ap, subst, Ok, IfErr, IsErrOf}
+use Rattle.std.proofs.Common.{rules, ◌∙◌, sym, ap, subst, Ok, IfErr, IsErrOf}
 use Rattle.lt_language.specs.Machine.{State}
 use Rattle.std.proofs.lemmas.Result.{err_from_is_err_and}
 use Rattle.lt_store.specs.declared.faults.WriteFault.TheVariants as faults
@@ -35,4 +35,4 @@ returns-clause-ok g c = λ command durable is opened.
     let out = c.in_ok-outcome in
     subst (λ taken. Answers (view_of c.args.store.now) durable command taken c.args.out.now c.add_outcome.new.out (view_of c.act.new.self) (g.D.Device.state c.args.device.now) (g.D.Device.state c.act.new.device)) (sym c.is_taken.ensures)
     (answers-event (view_of c.args.store.now) (view_of c.act.new.self) durable c.args.event command out.outcome c.act.new.out c.found.result.now c.args.out.now c.add_outcome.new.out _ _ is
-    (out.ensures.step durable opened) (out.ensures.goes durable opened) (c.act.ensures.rooted durable opened) c.found.ensures.front c.found.ensures.value c.add_outcome.ensures.short c.requires.room c.add_outcome.ensures.text)
+    (out.ensures.step durable opened) (out.ensures.goes durable opened) (c.act.ensures.rooted durable opened) (λ asks. (c.act.ensures.asked asks).1) (λ n f same idle. ap g.D.Device.state (c.act.ensures.full_quiet n f (c.in_ok-outcome.was ∙ ap Ok same) idle)) (λ same. ap g.D.Device.state (c.act.ensures.unchanged (c.in_ok-outcome.was ∙ ap Ok same)).1) c.found.ensures.front c.found.ensures.value c.add_outcome.ensures.short c.requires.room c.add_outcome.ensures.text)

@@ -2,9 +2,10 @@ use Rattle.std.proofs.Common.{◌≡◌, ◌++◌, ℕ, List, subst, sym, ap, �
 use Rattle.lt_image.specs.Standing.{after_writes}
 use Rattle.lt_language.specs.Lines.{rest_of}
 use Rattle.lt_language.proofs.LineLaws.{lines_split}
+use Rattle.lt_line.specs.Waiting.{all_settled}
 use Rattle.lt_serve.specs.declared.served.Served.{Served}
 use Rattle.lt_serve.specs.declared.served.Served.TheVariants as served
-use Rattle.lt_serve.specs.Rounds.{Stopped, all_text}
+use Rattle.lt_serve.specs.Rounds.{all_text}
 use Rattle.lt_serve.specs.View.{store_in}
 use Rattle.lt_store.specs.Open.{extents_of}
 use Rattle.lt_serve.proofs.LineLaws.{taken-and-rest}
@@ -31,8 +32,7 @@ returns-in-Err-clause-over g c = λ before input output start short r.
     let stopped = c.in-Err.ensures.err (after_writes before r.writes) (rest_of input) r.opened (lines_split input).last r.line in
     stepped-over _ before input output _ _ start _ r c.args.piece.now c.served_of.result _ _ _ _ _ short
     (subst (λ (status : Served). PieceStopped (extents_of (store_in c.args.session.now)) (after_writes before r.writes) (rest_of input ++ c.args.piece.now) status (g.K.Sink.stands c.args.sink.now) (g.K.Sink.stands c.emit-in-Err.new.sink) (g.K.Sink.faults c.args.sink.now) (g.K.Sink.faults c.emit-in-Err.new.sink) (g.D.Device.state c.args.device.now) (g.D.Device.state c.round.new.device)) (sym c.served_of.ensures)
-    (piece-stopped _ _ (rest_of input ++ c.args.piece.now) c.in-Err.fault c.round.new.out c.emit-in-Err.new.out _ _ _ _ _ _ c.emit-in-Err.result
-    (subst (λ (settled0 : List ℕ). Stopped (extents_of (store_in c.args.session.now)) (after_writes before r.writes) (rest_of input ++ c.args.piece.now) c.in-Err.fault settled0 c.round.new.out.settled_text (g.D.Device.state c.args.device.now) (g.D.Device.state c.round.new.device)) none stopped)
+    (piece-stopped _ _ (rest_of input ++ c.args.piece.now) c.round.new.self.lines c.in-Err.fault (all_settled c.args.replies.now) c.round.new.out c.emit-in-Err.new.out _ _ _ _ _ _ c.emit-in-Err.result none stopped
     c.emit-in-Err.ensures.all c.emit-in-Err.ensures.front c.emit-in-Err.ensures.cause))
 
 pub all_is_free-requires-clause-settled : goal.all_is_free-requires-clause-settled

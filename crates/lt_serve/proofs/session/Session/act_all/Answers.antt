@@ -60,10 +60,11 @@ returns-in_err-at-clause-err g c =
     let s = c.args.self.now in
     let device = g.D.Device.state c.args.device.now in
     let after = g.D.Device.state c.advance.new.device in
+    let held = c.advance.new.self.lines in
     let out : List ℕ = c.advance.new.out.settled_text in
     let fault = err_from_is_err_and c.from_residual.result c.from_residual.ensures.1 in
     subst (λ r. IfErr r (λ f. (durable : State) (line : List ℕ) → IsOpen (store_in s) durable device → IsFalse (has_line_feed line) → kept_in s ≡ kept_of line
-    → Stopped (extents_of (store_in s)) durable (line ++ c.args.piece.now) f c.args.out.now.settled_text out device after)) (sym fault.1)
-    (λ durable line opened free held. subst (λ (f : RoundFault). Stopped (extents_of (store_in s)) durable (line ++ c.args.piece.now) f c.args.out.now.settled_text out device after) (sym fault.2)
-    (subst (λ (bytes : List ℕ). Stopped (extents_of (store_in s)) durable bytes c.in_err-at.field-0.0 c.args.out.now.settled_text out device after) (taken-and-slice line c.args.piece.now c.loop-at.at)
-    (c.in_err-at.ensures.err (store_in s) durable (line ++ take c.loop-at.at c.args.piece.now) c.args.out.now device opened c.loop-at.invariant.extents c.requires.durable (c.loop-at.invariant.went durable line opened free held))))
+    → Stopped (extents_of (store_in s)) durable (line ++ c.args.piece.now) held f c.args.out.now out device after)) (sym fault.1)
+    (λ durable line opened free was. subst (λ (f : RoundFault). Stopped (extents_of (store_in s)) durable (line ++ c.args.piece.now) held f c.args.out.now out device after) (sym fault.2)
+    (subst (λ (bytes : List ℕ). Stopped (extents_of (store_in s)) durable bytes held c.in_err-at.field-0.0 c.args.out.now out device after) (taken-and-slice line c.args.piece.now c.loop-at.at)
+    (c.in_err-at.ensures.err (store_in s) durable (line ++ take c.loop-at.at c.args.piece.now) c.args.out.now device opened c.loop-at.invariant.extents c.requires.durable (c.loop-at.invariant.went durable line opened free was))))

@@ -1,8 +1,9 @@
-use Rattle.std.proofs.Common.{◌≡◌, ℕ, List, [], ◌++◌, take, sym, ap, subst, ◌∙◌, arith, IfErr}
+use Rattle.std.proofs.Common.{◌≡◌, ℕ, List, [], ◌∷◌, ◌++◌, take, drop, take-append-drop, sym, ap, subst, ◌∙◌, arith, IfErr}
 use Rattle.std.proofs.lemmas.List.{take_all}
 use Rattle.std.proofs.lemmas.Result.{err_from_is_err_and}
 use Rattle.lt_device.specs.State as told
 use Rattle.lt_image.specs.Standing.{after_writes}
+use Rattle.lt_language.specs.Lines.{line_feed}
 use Rattle.lt_language.specs.Machine.{State}
 use Rattle.lt_line.specs.Held.{HeldLine}
 use Rattle.lt_line.specs.Waiting.{Waiting}
@@ -10,20 +11,30 @@ use Rattle.lt_store.specs.Open.{IsOpen, StoreView, extents_of}
 use Rattle.lt_serve.specs.declared.faults.RoundFault.{RoundFault}
 use Rattle.lt_serve.specs.Rounds.{Stopped, Went}
 use Rattle.lt_serve.specs.View.{kept_in, store_in}
-use Rattle.lt_serve.proofs.RoundLaws.{went-on, kept-line, went-line, stopped-after}
+use Rattle.lt_serve.proofs.RoundLaws.{went-on, kept-line, went-line, stopped-line}
 use Rattle.lt_serve.proofs.session.Session.advance.Goals as goal
 
 pub returns-in_err-answer-clause-err : goal.returns-in_err-answer-clause-err
 returns-in_err-answer-clause-err g c =
     let s = c.args.self.now in
+    let piece = c.args.piece.now in
     let device = g.D.Device.state c.args.device.now in
     let after = g.D.Device.state c.answer.new.device in
+    let held = c.answer.new.self.lines in
+    let out : List ℕ = c.answer.new.out.settled_text in
+    let n = c.feed-taken.result in
+    let ready = sym c.ready.ensures ∙ c.if-ready.true in
+    let ends = c.feed-taken.ensures.ends ready in
+    let same_line = c.in_err-answer.ensures.held in
+    let whole : (ends.chunk ++ line_feed ∷ []) ++ drop n piece ≡ piece = ap (λ xs. xs ++ drop n piece) (sym ends.taken_is) ∙ take-append-drop n piece in
     let fault = err_from_is_err_and c.from_residual.result c.from_residual.ensures.1 in
     subst (λ r. IfErr r (λ f. (v : StoreView) (durable : State) (bytes : List ℕ) (waiting0 : Waiting) (start : told.State) → IsOpen v durable start → extents_of (store_in s) ≡ extents_of v → v.log.pending ≡ []
-    → Went v durable bytes (kept_in s) s.wrote waiting0 c.args.out.now (store_in s) start device → Stopped (extents_of v) durable (bytes ++ c.args.piece.now) f waiting0.settled_text c.answer.new.out.settled_text start after)) (sym fault.1)
-    (λ v durable bytes waiting0 start opened same nothing went. subst (λ (f : RoundFault). Stopped (extents_of v) durable (bytes ++ c.args.piece.now) f waiting0.settled_text c.answer.new.out.settled_text start after) (sym fault.2)
-    (stopped-after v durable bytes (kept_in s) s.wrote waiting0 c.args.out.now (store_in s) start device went nothing c.args.piece.now c.answer.new.out.settled_text c.in_err-answer.field-0.0 after
-    (c.in_err-answer.ensures.err (after_writes durable (take went.goes.sure (v.log.pending ++ went.writes))) went.goes.opened) (ap (λ (w : Waiting). w.settled_text) c.in_err-answer.ensures.untold)))
+    → Went v durable bytes (kept_in s) s.wrote waiting0 c.args.out.now (store_in s) start device → Stopped (extents_of v) durable (bytes ++ piece) held f waiting0 out start after)) (sym fault.1)
+    (λ v durable bytes waiting0 start opened same nothing went. subst (λ (f : RoundFault). Stopped (extents_of v) durable (bytes ++ piece) held f waiting0 out start after) (sym fault.2)
+    (subst (λ (more : List ℕ). Stopped (extents_of v) durable (bytes ++ more) held c.in_err-answer.field-0.0 waiting0 out start after) whole
+    (stopped-line v durable bytes (kept_in s) s.wrote waiting0 c.args.out.now (store_in s) start device went nothing ends.chunk (drop n piece) out held c.in_err-answer.field-0.0 after
+    (c.in_err-answer.ensures.err (after_writes durable (take went.goes.sure (v.log.pending ++ went.writes))) went.goes.opened) (ap (λ (w : Waiting). w.settled_text) c.in_err-answer.ensures.untold)
+    ends.unbroken (ap (λ (h : HeldLine). h.is_ended) same_line ∙ ready) (ap (λ (h : HeldLine). h.kept) same_line ∙ ends.kept_is))))
 
 pub returns-in_ok-answer-clause-ok : goal.returns-in_ok-answer-clause-ok
 returns-in_ok-answer-clause-ok g c = λ v durable bytes waiting0 start opened same went.

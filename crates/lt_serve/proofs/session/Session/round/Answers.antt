@@ -22,6 +22,6 @@ returns-in-Err-clause-err g c = λ durable line opened free held.
     let e = extents_of (store_in c.args.self.now) in
     let device = g.D.Device.state c.args.device.now in
     let after = g.D.Device.state c.act_and_commit.new.device in
-    subst (λ (settled : List ℕ). Stopped e durable (line ++ c.args.piece.now) c.in-Err.fault settled c.drop_unsettled.new.self.settled_text device after) (ap (λ (w : Waiting). w.settled_text) c.settle.ensures)
-    (subst (λ (settled : List ℕ). Stopped e durable (line ++ c.args.piece.now) c.in-Err.fault c.settle.new.self.settled_text settled device after) (sym (ap (λ (w : Waiting). w.settled_text) c.drop_unsettled.ensures))
+    subst (λ (waiting0 : Waiting). Stopped e durable (line ++ c.args.piece.now) c.act_and_commit.new.self.lines c.in-Err.fault waiting0 c.drop_unsettled.new.self.settled_text device after) c.settle.ensures
+    (subst (λ (settled : List ℕ). Stopped e durable (line ++ c.args.piece.now) c.act_and_commit.new.self.lines c.in-Err.fault c.settle.new.self settled device after) (sym (ap (λ (w : Waiting). w.settled_text) c.drop_unsettled.ensures))
     (c.in-Err.ensures.err durable line opened free held))
