@@ -182,9 +182,10 @@ fn look_into<D: Device>(
     ensures size { D.blocks device.new ≡ D.blocks device.old }
     ensures count { CountsAtMost 2 (D.reads device.old) (D.reads device.new) }
 {
-    match look(device, first, key, parts, page)? {
-        Some(item) => Ok(Some(show(&item, out))),
-        None => Ok(None),
+    match look(device, first, key, parts, page) {
+        Ok(Some(item)) => Ok(Some(show(&item, out))),
+        Ok(None) => Ok(None),
+        Err(fault) => Err(fault),
     }
 }
 
