@@ -10,6 +10,7 @@ use Rattle.lt_alloc.specs.Extents.{free_count}
 use Rattle.lt_tables.specs.Cut.{cut, table_total}
 use Rattle.lt_tables.specs.Merge.{newest}
 use Rattle.lt_terms.specs.Bytes.{Image}
+use Rattle.lt_terms.specs.Items.{Item}
 use Rattle.lt_format.specs.declared.header.Header.{Header}
 use Rattle.lt_format.specs.Changes.{flush}
 use Rattle.lt_format.specs.Naming.{Named, after_commit}
@@ -54,10 +55,10 @@ pub record IsPrepared (v : StoreView) (numbers : List ℕ) (image : Image) : Typ
   pub placed : PlacedIn v.named.geometry image numbers (cut (newest v.memory))
   pub filters : AllByRecursion (KeepsFilter v.named.geometry v.kept image) numbers
 
--- the tables of the memory table's newest items are more than the free extents
-pub record IsShort (v : StoreView) (short : Short) : Type 0 where
-  pub needed : short.needed ≡ table_total (newest v.memory)
-  pub free : short.free ≡ free_count v.taken
+-- the tables of these items' newest are more than the free extents
+pub record IsShort (memory : List Item) (taken : List Bool) (short : Short) : Type 0 where
+  pub needed : short.needed ≡ table_total (newest memory)
+  pub free : short.free ≡ free_count taken
   pub few : short.free < short.needed
 
 -- in each image that a crash may leave, the tables of the memory table's newest items stand in these extents

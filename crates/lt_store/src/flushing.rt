@@ -53,7 +53,7 @@ impl Store {
 
         ensures flushed { result ≡ Ok None → (durable : State) → IsOpen (view_of self.old) durable (D.state device.old) → IsFlushed (view_of self.old) (view_of self.new) (D.state device.new) }
         ensures done { result ≡ Ok None → ((view_of self.new).memory ≡ []) × (self.new.log.slots ≡ 0) × (self.new.log.pending ≡ []) }
-        ensures short { (short : Short) → result ≡ Ok (Some short) → IsShort (view_of self.old) short × (view_of self.new ≡ view_of self.old) × (device.new ≡ device.old) }
+        ensures short { (short : Short) → result ≡ Ok (Some short) → IsShort (view_of self.old).memory (view_of self.old).taken short × (view_of self.new ≡ view_of self.old) × (device.new ≡ device.old) }
         ensures idle { IsErrOf result WriteFault.NoMemory → self.new.log.pending ≡ [] }
         ensures up { (self.new.is_up ≡ false) ↔ IsErrOf result WriteFault.Device }
         ensures writes { self.new.writes ≡ self.old.writes }
@@ -65,10 +65,14 @@ impl Store {
         ensures later { D.faults device.old ≤ D.faults device.new }
         ensures cause { IsErrOf result WriteFault.Device → Rose (D.faults device.old) (D.faults device.new) }
     {
+        if let Some(short) = self.refused {
+            return Ok(Some(short));
+        }
         let items = self.memory.batch(alloc)?;
         let tables = tables_of(alloc, &items)?;
         let mut numbers = Vec::with_capacity(alloc, tables.len())?;
         if let Err(short) = self.extents.take(tables.len() as u32, &mut numbers) {
+            self.refused = Some(short);
             return Ok(Some(short));
         }
         self.is_up = false;
@@ -123,6 +127,7 @@ impl Store {
         ensures down { self.new.is_up ≡ false }
         ensures taken { self.new.extents ≡ self.old.extents }
         ensures writes { self.new.writes ≡ self.old.writes }
+        ensures refused { self.new.refused ≡ self.old.refused }
         ensures memory { IsErrOf result WriteFault.NoMemory → (view_of self.new).memory ≡ (view_of self.old).memory }
         ensures idle { IsErrOf result WriteFault.NoMemory → self.new.log.pending ≡ [] }
         ensures undamaged { (b : ℕ) → IsErrOf result (WriteFault.Damaged b) → ⊥ }
@@ -173,6 +178,7 @@ impl Store {
         ensures down { self.new.is_up ≡ false }
         ensures taken { self.new.extents ≡ self.old.extents }
         ensures writes { self.new.writes ≡ self.old.writes }
+        ensures refused { self.new.refused ≡ self.old.refused }
         ensures undamaged { (b : ℕ) → IsErrOf result (WriteFault.Damaged b) → ⊥ }
         ensures filters { (view_of self.new).kept ≡ (view_of self.old).kept }
         ensures geometry { (view_of self.new).named.geometry ≡ (view_of self.old).named.geometry }

@@ -108,6 +108,7 @@ impl Store {
             filters,
             page,
             writes,
+            refused: None,
             is_up: true,
         })
     }

@@ -1,9 +1,11 @@
 //! What a store keeps in memory.
 
-ghost use Rattle.std.specs.Prelude.{◌≡◌, true, length, vec_len};
+ghost use Rattle.std.specs.Prelude.{◌≡◌, Some, true, length, vec_len};
+ghost use Rattle.lt_alloc.specs.declared.extents.Short.{Short};
+ghost use Rattle.lt_store.specs.Flushing.{IsShort};
 ghost use Rattle.lt_store.specs.Kept.{IsKept};
 
-use lt_alloc::Extents;
+use lt_alloc::{Extents, Short};
 use lt_bloom::FilterPage;
 use lt_format::Geometry;
 use lt_manifest::Manifest;
@@ -25,9 +27,12 @@ pub struct Store {
     pub(super) page: Page,
     /// How many writes were accepted.
     pub(super) writes: u64,
+    /// What was short where a flush of the memory table as it stands was refused.
+    pub(super) refused: Option<Short>,
     pub(super) is_up: bool,
     ghost geometry_is: { geometry ≡ manifest.geometry },
     ghost kept: { is_up ≡ true → IsKept manifest log memory extents (vec_len filters) writes },
+    ghost refused_is: { is_up ≡ true → (short : Short) → refused ≡ Some short → IsShort memory extents short },
 }
 
 impl Store {

@@ -94,11 +94,32 @@ fn a_put_is_refused_once_no_extent_is_free(rt: HostRuntime) -> Result<(), Fail> 
         assert_eq!(rt; put(alloc, &mut device, key, value), Some(taken));
     }
 
+    // In one store too, a second time.
+    let refused = Outcome::Taken(full);
+    let answers = put_c_twice(alloc, &mut device);
+    assert_eq!(rt; answers, Some([refused, refused]));
+
     // The table has a and the log b.
     assert_eq!(rt; get(alloc, &mut device, b"a"), Ok((Some(b'1'), 1)));
     assert_eq!(rt; get(alloc, &mut device, b"b"), Ok((Some(b'2'), 0)));
     assert_eq!(rt; get(alloc, &mut device, b"c"), Ok((None, 0)));
     Ok(())
+}
+
+/// Opens the store, and puts c twice.
+fn put_c_twice<D: Device>(alloc: Global, device: &mut D) -> Option<[Outcome; 2]> {
+    let Ok(mut store) = Store::open(alloc, device) else {
+        return None;
+    };
+    let mut out = Page::new(alloc).ok()?;
+    let put_c = EventView::Put {
+        key: b"c",
+        value: b"3",
+    };
+    Some([
+        act(alloc, &mut store, device, put_c, &mut out)?,
+        act(alloc, &mut store, device, put_c, &mut out)?,
+    ])
 }
 
 #[test]

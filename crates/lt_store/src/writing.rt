@@ -297,5 +297,6 @@ impl Store {
             Kind::Delete => self.memory.delete(item.key),
         }
         self.writes += 1;
+        self.refused = None;
     }
 }

@@ -44,7 +44,7 @@ pub flush_into-requires-clause-some : goal.flush_into-requires-clause-some
 flush_into-requires-clause-some g c =
     let me = c.args.self.now in
     let kept = me.kept c.requires.up in
-    let r = subst (λ xs. Reserves c.len-2.result me.extents c.take.new.self xs c.take.new.into.items) c.in_ok-numbers.ensures.items c.in_default.ensures.ok in
+    let r = subst (λ xs. Reserves c.len-2.result me.extents c.take.new.self xs c.take.new.into.items) c.in_ok-numbers.ensures.items c.in_default-take.ensures.ok in
     let count : length c.take.new.into.items ≡ c.len-2.result = reserved-len me.manifest me.log me.memory me.extents c.take.new.self _ _ c.len-2.result c.take.new.into.items kept r in
     let is : length c.deref.result.now ≡ length (newest me.memory) = ap length (c.deref.ensures.value ∙ c.in_ok-items.ensures) in
     let any = newest-some me.memory c.requires.some in
@@ -58,28 +58,28 @@ pub flush_into-requires-clause-distinct : goal.flush_into-requires-clause-distin
 flush_into-requires-clause-distinct g c =
     let me = c.args.self.now in
     let kept = me.kept c.requires.up in
-    let r = subst (λ xs. Reserves c.len-2.result me.extents c.take.new.self xs c.take.new.into.items) c.in_ok-numbers.ensures.items c.in_default.ensures.ok in
+    let r = subst (λ xs. Reserves c.len-2.result me.extents c.take.new.self xs c.take.new.into.items) c.in_ok-numbers.ensures.items c.in_default-take.ensures.ok in
     subst (λ xs. all_distinct xs ≡ true) (sym c.deref-3.ensures.value) (reserved-distinct me.manifest me.log me.memory me.extents c.take.new.self _ _ c.len-2.result c.take.new.into.items kept r)
 
 pub flush_into-requires-clause-free : goal.flush_into-requires-clause-free
 flush_into-requires-clause-free g c =
     let me = c.args.self.now in
     let kept = me.kept c.requires.up in
-    let r = subst (λ xs. Reserves c.len-2.result me.extents c.take.new.self xs c.take.new.into.items) c.in_ok-numbers.ensures.items c.in_default.ensures.ok in
+    let r = subst (λ xs. Reserves c.len-2.result me.extents c.take.new.self xs c.take.new.into.items) c.in_ok-numbers.ensures.items c.in_default-take.ensures.ok in
     subst (AreFree me.manifest) (sym c.deref-3.ensures.value) (reserved-free me.manifest me.log me.memory me.extents c.take.new.self _ _ c.len-2.result c.take.new.into.items kept r)
 
 pub give_back-requires-clause-distinct : goal.give_back-requires-clause-distinct
 give_back-requires-clause-distinct g c =
     let me = c.args.self.now in
     let kept = me.kept c.requires.up in
-    let r = subst (λ xs. Reserves c.len-2.result me.extents c.take.new.self xs c.take.new.into.items) c.in_ok-numbers.ensures.items c.in_default.ensures.ok in
+    let r = subst (λ xs. Reserves c.len-2.result me.extents c.take.new.self xs c.take.new.into.items) c.in_ok-numbers.ensures.items c.in_default-take.ensures.ok in
     subst (λ xs. all_distinct xs ≡ true) (sym c.deref-in-Err-NoMemory.ensures.value) (reserved-distinct me.manifest me.log me.memory me.extents c.take.new.self _ _ c.len-2.result c.take.new.into.items kept r)
 
 pub give_back-requires-clause-below : goal.give_back-requires-clause-below
 give_back-requires-clause-below g c = λ x there.
     let me = c.args.self.now in
     let kept = me.kept c.requires.up in
-    let r = subst (λ xs. Reserves c.len-2.result me.extents c.take.new.self xs c.take.new.into.items) c.in_ok-numbers.ensures.items c.in_default.ensures.ok in
+    let r = subst (λ xs. Reserves c.len-2.result me.extents c.take.new.self xs c.take.new.into.items) c.in_ok-numbers.ensures.items c.in_default-take.ensures.ok in
     let below = reserved-below me.manifest me.log me.memory me.extents c.take.new.self _ _ c.len-2.result c.take.new.into.items kept r x (subst (λ xs. is_in x xs ≡ true) c.deref-in-Err-NoMemory.ensures.value there) in
     let same : length c.flush_into.new.self.extents ≡ length c.take.new.self = ap length c.flush_into.ensures.taken in
     omega (arith, below, same)
@@ -110,7 +110,7 @@ pub invariant_of-self-in-Ok : goal.invariant_of-self-in-Ok
 invariant_of-self-in-Ok g c =
     let me = c.args.self.now in
     let kept = me.kept c.requires.up in
-    let r = subst (λ xs. Reserves c.len-2.result me.extents c.take.new.self xs c.take.new.into.items) c.in_ok-numbers.ensures.items c.in_default.ensures.ok in
+    let r = subst (λ xs. Reserves c.len-2.result me.extents c.take.new.self xs c.take.new.into.items) c.in_ok-numbers.ensures.items c.in_default-take.ensures.ok in
     let new = c.flush_into.new.self in
     let v : StoreView = view_of me in
     let count : length c.take.new.into.items ≡ c.len-2.result = reserved-len me.manifest me.log me.memory me.extents c.take.new.self _ _ c.len-2.result c.take.new.into.items kept r in
@@ -130,13 +130,14 @@ invariant_of-self-in-Ok g c =
     record {
       geometry_is = new.geometry_is;
       kept = λ up. kept-along new.manifest (flushed_log me.log header) new.log [] new.memory c.take.new.self new.extents _ _ _ _ (ap (λ (w : StoreView). w.log) flushed_is) (ap (λ (w : StoreView). w.memory) flushed_is) c.in-Ok.ensures.taken (omega (arith, filled, new_len, old_len)) c.in-Ok.ensures.writes k;
+      refused_is = λ up short is. absurd (c.in_default.not-Some short (sym c.flush_into.ensures.refused ∙ is));
     }
 
 pub invariant_of-self-in-Err-NoMemory : goal.invariant_of-self-in-Err-NoMemory
 invariant_of-self-in-Err-NoMemory g c =
     let me = c.args.self.now in
     let kept = me.kept c.requires.up in
-    let r = subst (λ xs. Reserves c.len-2.result me.extents c.take.new.self xs c.take.new.into.items) c.in_ok-numbers.ensures.items c.in_default.ensures.ok in
+    let r = subst (λ xs. Reserves c.len-2.result me.extents c.take.new.self xs c.take.new.into.items) c.in_ok-numbers.ensures.items c.in_default-take.ensures.ok in
     let new = c.flush_into.new.self in
     let new_ok = new.filters.ok.0 in
     let old_ok = me.filters.ok.0 in
@@ -152,7 +153,11 @@ invariant_of-self-in-Err-NoMemory g c =
       kept = λ up. kept-along new.manifest new.log new.log new.memory new.memory c.give_back.new.extents c.give_back.new.extents (length new.filters.items) _ new.writes new.writes refl refl refl (sym new_len) refl
           (back-kept me.manifest new.manifest me.log new.log me.memory new.memory me.extents c.take.new.self c.give_back.new.extents _ (length new.filters.items) me.writes new.writes c.len-2.result c.take.new.into.items kept k' r size
           (λ x small. subst (λ ns. is_free c.give_back.new.extents x ≡ (is_free c.take.new.self x || is_in x ns)) numbers (subst (λ e. is_free c.give_back.new.extents x ≡ (is_free e x || is_in x c.deref-in-Err-NoMemory.result.now)) taken (c.give_back.ensures.free x (subst (λ e. x < length e) (sym taken) small)))));
+      refused_is = λ up short is. absurd (c.in_default.not-Some short (sym c.flush_into.ensures.refused ∙ is));
     }
+
+pub returns-in-Some-clause-rooted : goal.returns-in-Some-clause-rooted
+returns-in-Some-clause-rooted g c = λ d o. rooted-none (view_of c.args.self.now) d (g.D.Device.state c.args.device.now) o
 
 pub returns-in_err-items-clause-rooted : goal.returns-in_err-items-clause-rooted
 returns-in_err-items-clause-rooted g c = λ d o. rooted-none (view_of c.args.self.now) d (g.D.Device.state c.args.device.now) o
