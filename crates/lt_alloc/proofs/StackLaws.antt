@@ -6,7 +6,8 @@ use Rattle.std.proofs.lemmas.List.Elements.{All-nil, All-push}
 use Rattle.std.proofs.lemmas.List.Quantifiers.{all_pairs_push}
 use Rattle.std.proofs.lemmas.List.Sums.{sum_by_push, sum_by-set, count_by-le-length}
 use Rattle.std.proofs.lemmas.Bool.{cases_eq, cases_lt, eq-eqb, ne_eqb, le-leb, true≢false, and_parts, not-true}
-use Rattle.lt_alloc.specs.Extents.{is_free, free_count, is_among, Reserves}
+use Rattle.lt_terms.specs.Numbers.{is_in}
+use Rattle.lt_alloc.specs.Extents.{is_free, free_count, Reserves}
 use Rattle.lt_alloc.specs.Stack.{IsStack}
 
 abbrev copies : ℕ → List ℕ → ℕ
@@ -84,21 +85,21 @@ IsStackFrom-whole taken numbers capacity stack room few = record {
 
 -- ---- what is reserved
 
-among_push : (n x : ℕ) (numbers : List ℕ) → is_among n (numbers ++ x ∷ []) ≡ (is_among n numbers || (x == n))
+among_push : (n x : ℕ) (numbers : List ℕ) → is_in n (numbers ++ x ∷ []) ≡ (is_in n numbers || (x == n))
 among_push n x [] = or_false (x == n)
   where
     or_false : (b : Bool) → (b || false) ≡ (false || b)
     or_false true = refl
     or_false false = refl
-among_push n x (m ∷ numbers) = ap (λ b. (m == n) || b) (among_push n x numbers) ∙ or_assoc (m == n) (is_among n numbers) (x == n)
+among_push n x (m ∷ numbers) = ap (λ b. (m == n) || b) (among_push n x numbers) ∙ or_assoc (m == n) (is_in n numbers) (x == n)
   where
     or_assoc : (a b c : Bool) → (a || (b || c)) ≡ ((a || b) || c)
     or_assoc true b c = refl
     or_assoc false b c = refl
 
-among_at : (numbers : List ℕ) (k d : ℕ) → k < length numbers → is_among (get_or numbers k d) numbers ≡ true
+among_at : (numbers : List ℕ) (k d : ℕ) → k < length numbers → is_in (get_or numbers k d) numbers ≡ true
 among_at [] k d below = absurd (omega arith)
-among_at (m ∷ numbers) zero d below = ap (λ b. b || is_among m numbers) (eq-eqb m m refl)
+among_at (m ∷ numbers) zero d below = ap (λ b. b || is_in m numbers) (eq-eqb m m refl)
 among_at (m ∷ numbers) (suc k) d below = ap (λ b. (m == get_or numbers k d) || b) (among_at numbers k d (omega arith)) ∙ or_true (m == get_or numbers k d)
   where
     or_true : (b : Bool) → (b || true) ≡ true
@@ -124,23 +125,23 @@ Reserves-none old before = record {
 pub Reserves-more : (count : ℕ) (old was new : List Bool) (before after more : List ℕ) (x : ℕ) → Reserves count old was before after → is_free was x ≡ true → new ≡ set was x true → more ≡ after ++ x ∷ [] → Reserves (count + 1) old new before more
 Reserves-more count old was new before after more x r free new_is more_is =
     let below = is_free-within was x free in
-    let both = and_parts (is_free old x) (not (is_among x r.numbers)) (sym (r.others_stay x) ∙ free) in
-    let fresh = not-true (is_among x r.numbers) both.1 in
+    let both = and_parts (is_free old x) (not (is_in x r.numbers)) (sym (r.others_stay x) ∙ free) in
+    let fresh = not-true (is_in x r.numbers) both.1 in
     record {
       numbers = r.numbers ++ x ∷ [];
       appended = more_is ∙ ap (λ xs. xs ++ x ∷ []) r.appended ∙ append_assoc before r.numbers (x ∷ []);
       len = length_push r.numbers x ∙ ap (λ k. k + 1) r.len;
       were_free = All-push (λ n. IsTrue (is_free old n)) r.numbers x r.were_free both.0;
-      differ = all_pairs_push ◌≢◌ r.numbers x r.differ (λ k d small same. true≢false (sym (among_at r.numbers k d small) ∙ ap (λ y. is_among y r.numbers) same ∙ fresh));
+      differ = all_pairs_push ◌≢◌ r.numbers x r.differ (λ k d small same. true≢false (sym (among_at r.numbers k d small) ∙ ap (λ y. is_in y r.numbers) same ∙ fresh));
       same_extents = ap length new_is ∙ length-set was x true ∙ r.same_extents;
       others_stay = λ n. ap (λ ts. is_free ts n) new_is ∙ ⊎_elim
-          (λ (same : x ≡ n). subst (λ k. is_free (set was x true) k ≡ (is_free old k && not (is_among k (r.numbers ++ x ∷ [])))) same
+          (λ (same : x ≡ n). subst (λ k. is_free (set was x true) k ≡ (is_free old k && not (is_in k (r.numbers ++ x ∷ [])))) same
           (ap not (get_or-set_same was x true true below)
-          ∙ sym (ap (λ b. is_free old x && not b) (among_push x x r.numbers ∙ ap (λ b. is_among x r.numbers || b) (eq-eqb x x refl) ∙ or_true (is_among x r.numbers)) ∙ and_false (is_free old x))))
+          ∙ sym (ap (λ b. is_free old x && not b) (among_push x x r.numbers ∙ ap (λ b. is_in x r.numbers || b) (eq-eqb x x refl) ∙ or_true (is_in x r.numbers)) ∙ and_false (is_free old x))))
           (λ (other : x ≡ n → ⊥).
           ap not (get_or-set_other was x n true true (λ back. other (sym back)))
           ∙ r.others_stay n
-          ∙ ap (λ b. is_free old n && not b) (sym (among_push n x r.numbers ∙ ap (λ b. is_among n r.numbers || b) (ne_eqb x n other) ∙ or_false (is_among n r.numbers))))
+          ∙ ap (λ b. is_free old n && not b) (sym (among_push n x r.numbers ∙ ap (λ b. is_in n r.numbers || b) (ne_eqb x n other) ∙ or_false (is_in n r.numbers))))
           (cases_eq x n);
     }
   where

@@ -1,7 +1,6 @@
 -- Extents are seen as a list that says of each number whether it is taken.
 use Rattle.std.specs.Prelude.{◌≡◌, ◌≢◌, ℕ, ◌<◌, Bool, true, not, ◌&&◌, List, ◌++◌, length, All, AllPairs, count_by, IsTrue, slice_index_or}
-use Rattle.std.specs.List.{list_any}
-use Rattle.std.specs.Prelude.{◌==◌}
+use Rattle.lt_terms.specs.Numbers.{is_in}
 
 -- this is the number of an extent, and it is free
 abbrev pub is_free : List Bool → ℕ → Bool
@@ -11,14 +10,10 @@ is_free extents number = not (slice_index_or extents number true)
 abbrev pub free_count : List Bool → ℕ
 free_count extents = count_by not extents
 
--- the number is one of these
-abbrev pub is_among : ℕ → List ℕ → Bool
-is_among number numbers = list_any (λ n. n == number) numbers
-
 -- so many extents, of which these are taken
 pub record AreTaken (count : ℕ) (used : List ℕ) (extents : List Bool) : Type 0 where
   pub len : length extents ≡ count
-  pub free : (n : ℕ) → n < count → is_free extents n ≡ not (is_among n used)
+  pub free : (n : ℕ) → n < count → is_free extents n ≡ not (is_in n used)
 
 -- count more numbers stand behind the list; they were free, they differ, and nothing else is taken with them
 pub record Reserves (count : ℕ) (old new : List Bool) (before after : List ℕ) : Type 0 where
@@ -28,4 +23,4 @@ pub record Reserves (count : ℕ) (old new : List Bool) (before after : List ℕ
   pub were_free : All (λ n. IsTrue (is_free old n)) numbers
   pub differ : AllPairs ◌≢◌ numbers
   pub same_extents : length new ≡ length old
-  pub others_stay : (n : ℕ) → is_free new n ≡ (is_free old n && not (is_among n numbers))
+  pub others_stay : (n : ℕ) → is_free new n ≡ (is_free old n && not (is_in n numbers))

@@ -12,6 +12,7 @@ use Rattle.lt_balance.specs.declared.columns.Column.{Column}
 use Rattle.lt_balance.specs.Entries.{AreEntries}
 use Rattle.lt_balance.specs.Columns.{column_of, no_column, AreColumns, NoneAbove}
 use Rattle.lt_tables.specs.Placement.{homed, entries_cost, column_load, cost_below, greatest, column_mark, cost_from, sent_cost}
+use Rattle.lt_tables.proofs.ListLaws.{all_filter}
 
 -- ---- filters
 
@@ -30,14 +31,6 @@ none_kept p (e ∷ es) all = ap (λ b. cond b (e ∷ filter p es) (filter p es))
 weaker : (P Q : Entry → Type 0) → ((e : Entry) → P e → Q e) → (es : List Entry) → AllByRecursion P es → AllByRecursion Q es
 weaker P Q h [] all = tt
 weaker P Q h (e ∷ es) all = (h e all.0, weaker P Q h es all.1)
-
-filter_keeps : (P : Entry → Type 0) (b : Bool) (e : Entry) (kept : List Entry) → P e → AllByRecursion P kept → AllByRecursion P (cond b (e ∷ kept) kept)
-filter_keeps P true e kept here all = (here, all)
-filter_keeps P false e kept here all = all
-
-all_filter : (P : Entry → Type 0) (p : Entry → Bool) (es : List Entry) → AllByRecursion P es → AllByRecursion P (filter p es)
-all_filter P p [] all = tt
-all_filter P p (e ∷ es) all = filter_keeps P (p e) e (filter p es) all.0 (all_filter P p es all.1)
 
 -- ---- costs
 

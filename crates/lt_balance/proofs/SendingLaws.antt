@@ -5,7 +5,7 @@ use Rattle.std.specs.List.{filter, range_with_len, All, AllByRecursion}
 use Rattle.std.specs.Option.{option_and_then, ForSome}
 use Rattle.std.proofs.lemmas.List.{drop_more, drop_all, length_push, length-set, get_or-set_same, get_or-set_other}
 use Rattle.std.proofs.lemmas.List.Sums.{sum_by_push}
-use Rattle.std.proofs.lemmas.List.Elements.{All-nil, All-cons, All-append, All-take, All-drop, All-same}
+use Rattle.std.proofs.lemmas.List.Elements.{All-cons, All-append, All-take, All-drop, All-same}
 use Rattle.std.proofs.lemmas.Option.{none-some}
 use Rattle.std.proofs.lemmas.Bool.{cases_eq, eq-eqb, ne_eqb, le-leb, lt-leb, lt-ltb, le-ltb}
 use Rattle.lt_tables.specs.declared.Entry.{Entry}
@@ -62,10 +62,6 @@ one_more c some within =
     let next : (c - 1) + 1 ≡ c = omega arith in
     ap (λ n. range_with_len (c - 1) n) many ∙ ap (λ k. (c - 1) ∷ range_with_len k (64 - c)) next
 
--- no columns are left out at the start
-pub IsOrder-start : (cols : List Column) → IsOrder cols 64 []
-IsOrder-start cols = record { few = omega arith; small = All-nil (λ d. d < 64); sorted = λ es are. refl }
-
 pub IsOrder-takes : (cols : List Column) (c : ℕ) (order new : List ℕ) (at : ℕ) → IsOrder cols c order → 0 < c → c ≤ 64 → capacity < load_at cols (c - 1) → at ≤ length order → new ≡ insert order at (c - 1) → length new ≡ length order + 1
     → ((es : List Entry) → AreColumns es cols → insert order at (c - 1) ≡ put_by_load es (c - 1) order) → IsOrder cols (c - 1) new
 IsOrder-takes cols c order new at is some within more place new_is long put =
@@ -114,9 +110,6 @@ may_receive cols c = nat_le (load_at cols c) capacity
 pub record IsBest (cols : List Column) (rooms : List ℕ) (c : ℕ) (found : Option ℕ) : Type 0 where
   pub small : ForSome found (λ c. c < 64)
   pub is : found ≡ best (λ c. get_or rooms c 0) (filter (may_receive cols) (columns_from c))
-
-pub IsBest-start : (cols : List Column) (rooms : List ℕ) → IsBest cols rooms 64 None
-IsBest-start cols rooms = record { small = λ c is. absurd (none-some c is); is = refl }
 
 abbrev pub best_from : List Column → List ℕ → ℕ → Option ℕ
 best_from cols rooms c = best (λ k. get_or rooms k 0) (filter (may_receive cols) (columns_from c))

@@ -1,11 +1,12 @@
 -- What a bit that is set makes of a page, and positions of a filter.
-use Rattle.std.proofs.Common.{◌≡◌, ℕ, ◌-◌, ◌*◌, ◌/◌, ◌%◌, ◌^◌, ◌<◌, refl, sym, ap, subst, ◌∙◌, List, [], length, set, get_or, Bool, true, false, cond, arith, ⊎_elim, w8}
-use Rattle.std.specs.Prelude.{◌==◌, ◌&&◌, bit_or}
+use Rattle.std.proofs.Common.{◌≡◌, ℕ, ◌-◌, ◌*◌, ◌/◌, ◌%◌, ◌^◌, ◌<◌, refl, sym, ap, subst, ◌∙◌, List, [], length, set, get_or, true, cond, arith, ⊎_elim, w8}
+use Rattle.std.specs.Prelude.{◌==◌, bit_or}
 use Rattle.std.specs.Int.{bit_at}
 use Rattle.std.proofs.lemmas.List.{get_or-set_same, get_or-set_other}
 use Rattle.std.proofs.lemmas.Nat.Bits.{bit_at_set_same, bit_at_set_other}
 use Rattle.std.proofs.lemmas.Bool.{cases_eq, eq-eqb, ne_eqb}
 use Rattle.lt_tables.specs.Filter.{is_set, AddsPositions}
+use Rattle.std.proofs.Math.Bool.{and-false}
 
 -- the byte of a bit that is set
 abbrev with_bit : List ℕ → ℕ → ℕ
@@ -35,13 +36,9 @@ is_set-set old new bit small long is n = ap (λ bytes. is_set bytes n) is ∙ �
     ∙ sym (ap (λ b. cond b true (is_set old n)) (ne_eqb n bit other)))
     (cases_eq n bit)
 
-and_false : (b : Bool) → (b && false) ≡ false
-and_false true = refl
-and_false false = refl
-
 -- no positions change nothing
 pub AddsPositions-none : (page : List ℕ) (c : ℕ) → AddsPositions page page c []
 AddsPositions-none page c = record {
   len = refl;
-  bits = λ n below. sym (ap (λ b. cond b true (is_set page n)) (and_false (n / 512 == c)));
+  bits = λ n below. sym (ap (λ b. cond b true (is_set page n)) (and-false (n / 512 == c)));
 }

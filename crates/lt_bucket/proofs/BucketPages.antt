@@ -1,33 +1,17 @@
 -- A bucket that fits is read again from its page.
-use Rattle.std.proofs.Common.{◌≡◌, ℕ, zero, suc, ◌+◌, ◌-◌, ◌<◌, ◌≤◌, ◌^◌, refl, sym, ap, ◌∙◌, List, [], ◌∷◌, ◌++◌, length, take, drop, true, Option, Some, None, arith, le-leb, lt-ltb, take_at, drop_at, length-append}
+use Rattle.std.proofs.Common.{◌≡◌, ℕ, suc, ◌+◌, ◌-◌, ◌<◌, ◌≤◌, ◌^◌, refl, ap, ◌∙◌, List, [], ◌∷◌, ◌++◌, length, take, drop, true, Option, Some, None, arith, le-leb, lt-ltb, take_at, drop_at}
 use Rattle.std.specs.Prelude.{IsTrue, nat_le, nat_lt}
 use Rattle.std.specs.List.{list_all, AllByRecursion}
 use Rattle.std.specs.Option.{ForSome}
 use Rattle.std.proofs.lemmas.Bool.{and_parts}
 use Rattle.std.proofs.lemmas.List.Sums.{sum_by-cons}
 use Rattle.std.proofs.lemmas.Nat.{from_be_bytes-to_be_bytes_2, from_be_bytes-to_be_bytes_4}
-use Rattle.lt_terms.specs.Bytes.{zeros, all_zero}
-use Rattle.lt_terms.specs.Items.{Item, is_valid, item_cost, total_cost, spelling, spellings}
+use Rattle.lt_terms.specs.Bytes.{zeros}
+use Rattle.lt_terms.specs.Items.{Item, is_valid, item_cost, total_cost, spellings}
 use Rattle.lt_terms.proofs.ItemLaws.{items_of-spellings}
 use Rattle.lt_tables.specs.declared.Sends.{Sends}
 use Rattle.lt_tables.specs.Bucket.{capacity, bucket_of, bucket_page_1, bucket_of_page_1}
-
-pub all_zero-zeros : (n : ℕ) → all_zero (zeros n) ≡ true
-unfolding zeros
-all_zero-zeros zero = refl
-all_zero-zeros (suc n) = all_zero-zeros n
-
--- a spelling is as long as the item costs
-pub length-spelling : (item : Item) → length (spelling item) ≡ item_cost item
-length-spelling item = let e = length-append item.key item.value in omega arith
-
-pub length-spellings : (items : List Item) → length (spellings items) ≡ total_cost items
-length-spellings [] = refl
-length-spellings (v ∷ items) =
-    length-append (spelling v) (spellings items)
-    ∙ ap (λ n. n + length (spellings items)) (length-spelling v)
-    ∙ ap (λ n. item_cost v + n) (length-spellings items)
-    ∙ sym (sum_by-cons item_cost v items)
+use Rattle.lt_terms.proofs.SpellingLaws.{length-spellings, all_zero-zeros}
 
 pub valid_each : (items : List Item) → list_all is_valid items ≡ true → AllByRecursion (λ item. IsTrue (is_valid item)) items
 valid_each [] h = tt

@@ -1,17 +1,17 @@
 -- The page of a bucket that is finished.
 use Rattle.std.proofs.Common.{◌≡◌, ℕ, ◌+◌, ◌-◌, ◌<◌, ◌≤◌, ◌^◌, refl, sym, ap, subst, ◌∙◌, List, [], ◌++◌, length, take, drop, true, Option, Some, None, is_some, zero-add, arith, append_assoc}
 use Rattle.std.specs.Option.{ForSome}
-use Rattle.std.proofs.lemmas.List.{length-append, length-replicate, take_at, drop_at, drop_all, append-nil}
+use Rattle.std.proofs.lemmas.List.{length-append, take_at, drop_at, drop_all, append-nil}
 use Rattle.std.proofs.Math.Seq.{take-append-add}
-use Rattle.lt_terms.specs.Bytes.{zeros, block_of}
+use Rattle.lt_terms.specs.Bytes.{zeros, block_of, filled}
 use Rattle.lt_terms.specs.Items.{Item, total_cost, spellings, items_of}
-use Rattle.lt_page.specs.Page.{filled}
 use Rattle.lt_tables.specs.declared.Sends.{Sends}
 use Rattle.lt_tables.specs.Bucket.{bucket_of, bucket_page_1}
 use Rattle.lt_bucket.specs.Reading.{items_in}
 use Rattle.lt_bucket.specs.Building.{header_of, used_bytes, items_used, IsSpelled}
 use Rattle.lt_bucket.proofs.ItemsOf.{items_in-reads}
-use Rattle.lt_bucket.proofs.BucketPages.{bucket_of-page, length-spellings}
+use Rattle.lt_bucket.proofs.BucketPages.{bucket_of-page}
+use Rattle.lt_terms.proofs.SpellingLaws.{length-spellings, length-zeros}
 
 -- nothing is spelled in no bytes
 pub none_spelled : (page : List ℕ) → IsSpelled page 0 0
@@ -21,10 +21,6 @@ none_spelled page = record { items = refl; whole = refl; used_is = refl; fits = 
 pub none_used : (page : List ℕ) → items_used page 0 0 ≡ []
 unfolding items_of
 none_used page = refl
-
-pub length-zeros : (n : ℕ) → length (zeros n) ≡ n
-unfolding zeros
-length-zeros n = length-replicate n 0
 
 length-header : (count used : ℕ) (sends : Option Sends) → length (header_of count used sends) ≡ 16
 unfolding zeros
@@ -60,6 +56,7 @@ finished-whole old begun new header rest used header_len fits begun_len begun_is
 -- the finished page
 pub record IsFinished (old new : List ℕ) (count used : ℕ) (sends : Option Sends) : Type 0 where
   pub same : used_bytes old used ≡ used_bytes new used
+  pub page : new ≡ bucket_page_1 (record { sends = sends; items = items_used old count used })
   pub bucket : bucket_of new ≡ Some (record { sends = sends; items = items_used old count used })
 
 pub finished : (old begun new header rest : List ℕ) (count used : ℕ) (sends : Option Sends) → IsSpelled old count used → header ≡ header_of count used sends → length begun ≡ 4096
@@ -85,5 +82,6 @@ finished old begun new header rest count used sends spelled header_is begun_len 
       same = sym (ap (λ new. take used (drop 16 new)) (whole ∙ append_assoc header (used_bytes old used) (zeros (4096 - (16 + used))))
           ∙ ap (take used) (drop_at header (used_bytes old used ++ zeros (4096 - (16 + used))) 16 header_len)
           ∙ take_at (used_bytes old used) (zeros (4096 - (16 + used))) used used_len);
+      page = page;
       bucket = ap bucket_of page ∙ bucket_of-page sends items read.valid (omega (arith, spelled.used_is, spelled.fits)) target mark;
     }

@@ -2,8 +2,7 @@
 use Rattle.std.proofs.Common.{◌≡◌, ℕ, ◌+◌, ◌≤◌, refl, sym, ap, ◌∙◌, List, [], ◌∷◌, ◌++◌, length, take, drop, true, Some, is_some, add-zero, arith}
 use Rattle.std.specs.Prelude.{unwrap_or}
 use Rattle.std.specs.List.{list_all}
-use Rattle.std.proofs.lemmas.List.{length-append, length-take-le, length-drop, take_at, drop-append-le, drop-take, append-nil}
-use Rattle.std.proofs.lemmas.List.Concat.{flat_map-append}
+use Rattle.std.proofs.lemmas.List.{length-append, length-take-le, length-drop, take_at, drop-append-le, drop-take}
 use Rattle.std.proofs.lemmas.List.Folds.{list_all-append}
 use Rattle.std.proofs.lemmas.List.Sums.{sum_by-append, sum_by-cons}
 use Rattle.lt_terms.specs.Items.{Item, is_valid, item_cost, total_cost, spelling, spellings, items_of}
@@ -12,7 +11,8 @@ use Rattle.lt_tables.specs.Bucket.{capacity}
 use Rattle.lt_item.specs.Views.{item_written}
 use Rattle.lt_bucket.specs.Building.{used_bytes, items_used, IsSpelled}
 use Rattle.lt_bucket.proofs.ItemsOf.{items_in-reads}
-use Rattle.lt_bucket.proofs.BucketPages.{valid_each, length-spelling, count_small}
+use Rattle.lt_bucket.proofs.BucketPages.{valid_each, count_small}
+use Rattle.lt_terms.proofs.SpellingLaws.{length-spelling, spellings-more}
 
 -- the bytes in use, with the item behind them
 used-written : (old : List ℕ) (used : ℕ) (item : Item) → 16 + used ≤ length old → used_bytes (item_written old (16 + used) item) (used + length (spelling item)) ≡ used_bytes old used ++ spelling item
@@ -29,9 +29,6 @@ used-written old used item within =
     (drop-append-le 16 (front ++ spelling item) rest longer
     ∙ ap (λ bytes. bytes ++ rest) (drop-append-le 16 front (spelling item) long ∙ ap (λ bytes. bytes ++ spelling item) inner))
     ∙ take_at (used_bytes old used ++ spelling item) rest (used + length (spelling item)) whole
-
-pub spellings-more : (items : List Item) (item : Item) → spellings (items ++ item ∷ []) ≡ spellings items ++ spelling item
-spellings-more items item = flat_map-append spelling items (item ∷ []) ∙ ap (λ bytes. spellings items ++ bytes) (append-nil (spelling item))
 
 -- the items, with one more
 pub items-more : (count : ℕ) (bytes : List ℕ) (items : List Item) (item : Item) → bytes ≡ spellings items → length items ≡ count → list_all is_valid items ≡ true → is_valid item ≡ true

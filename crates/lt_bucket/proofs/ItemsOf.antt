@@ -1,14 +1,14 @@
 -- Items that fill bytes, read one after another.
-use Rattle.std.proofs.Common.{◌≡◌, ℕ, zero, suc, ◌-◌, ◌≤◌, refl, sym, ap, subst, ◌∙◌, cond, List, [], ◌∷◌, length, drop, Bool, true, false, Option, Some, None, is_some, arith}
-use Rattle.std.specs.Prelude.{◌==◌, IsTrue, unwrap_or, nat_le}
+use Rattle.std.proofs.Common.{◌≡◌, ℕ, zero, suc, ◌-◌, ◌≤◌, refl, sym, ap, subst, ◌∙◌, List, [], ◌∷◌, length, drop, true, false, Option, Some, None, is_some, arith}
+use Rattle.std.specs.Prelude.{◌==◌, IsTrue, unwrap_or}
 use Rattle.std.specs.List.{list_all}
 use Rattle.std.specs.Option.{option_and_then, option_map}
 use Rattle.std.proofs.lemmas.List.{length-drop}
 use Rattle.std.proofs.lemmas.Bool.{eq-eqb, ne_eqb}
 use Rattle.std.proofs.lemmas.Option.{none-some}
 use Rattle.lt_terms.specs.Items.{Item, is_valid, front_item, items_of}
-use Rattle.lt_terms.proofs.ItemLaws.{cut_item-cuts}
 use Rattle.lt_bucket.specs.Reading.{items_in}
+use Rattle.lt_tables.proofs.ValidLaws.{front_item-valid}
 
 -- where no item stands, no items do
 pub items_of-none : (n m : ℕ) (bytes : List ℕ) → n ≡ suc m → front_item bytes ≡ None → items_of n bytes ≡ None
@@ -60,15 +60,6 @@ pub items_in-one : (n m : ℕ) (bytes : List ℕ) (found : Item × List ℕ) →
 items_in-one n m bytes found n_is read some =
     ap (λ o. unwrap_or o []) (items_of-one n m bytes found n_is read)
     ∙ unwrapped_one found.0 (items_of m found.1) (sym (is_some-one n m bytes found n_is read) ∙ some)
-
--- an item that was read is valid
-guarded : {A : Type 0} (test : Bool) (o : Option A) (x : A) → cond test o None ≡ Some x → o ≡ Some x
-guarded true o x h = h
-guarded false o x h = absurd (none-some x h)
-
-pub front_item-valid : (bytes : List ℕ) (found : Item × List ℕ) → front_item bytes ≡ Some found → is_valid found.0 ≡ true
-unfolding front_item
-front_item-valid bytes found h = (cut_item-cuts _ _ _ _ found (guarded (nat_le 4 (length bytes)) _ found h)).valid
 
 -- what items that fill bytes are
 pub record AreRead (count : ℕ) (items : List Item) : Type 0 where

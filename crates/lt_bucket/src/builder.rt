@@ -5,7 +5,7 @@ ghost use Rattle.std.specs.Option.{ForSome};
 ghost use Rattle.lt_terms.specs.Bytes.{IsBlock, zeros};
 ghost use Rattle.lt_terms.specs.Items.{is_valid, item_cost, total_cost};
 ghost use Rattle.lt_item.specs.Views.{item_of, item_written};
-ghost use Rattle.lt_tables.specs.Bucket.{sends_bytes, capacity, bucket_of};
+ghost use Rattle.lt_tables.specs.Bucket.{sends_bytes, bucket_page_1, capacity, bucket_of};
 ghost use Rattle.lt_bucket.specs.Building.{header_of, IsSpelled};
 
 use lt_item::{ItemView, item_header};
@@ -66,10 +66,11 @@ impl<'a> BucketBuilder<'a> {
         self.count += 1;
     }
 
-    /// Finishes the bucket, which sends so. The page then spells the items that were added, in
-    /// their order.
+    /// Finishes the bucket, which sends so. The page then is the one that spells the items that were
+    /// added, in their order.
     pub fn finish(self, sends: Option<Sends>)
         requires { ForSome sends (λ sends. sends.target < 64) }
+        ensures page { self.exit.0.now ≡ bucket_page_1 (record { sends = sends; items = added self.entry }) }
         ensures bucket { bucket_of self.exit.0.now ≡ Some (record { sends = sends; items = added self.entry }) }
         ensures block { IsBlock self.exit.0.now }
     {

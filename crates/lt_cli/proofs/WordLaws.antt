@@ -1,8 +1,8 @@
 -- Numbers as words.
 use Rattle.std.proofs.Common.{rules, ◌≡◌, ◌↔◌, ℕ, ◌<◌, ◌≤◌, ◌^◌, refl, sym, ap, subst, ◌∙◌, List, [], ◌∷◌, length, map, slice_index_or, Bool, true, false, Option, Some, None, Result, Ok, String, IsTrue, codes, string_bytes, arith}
 use Rattle.std.specs.Fmt.{decimal}
-use Rattle.std.specs.Str.Parse.{ParsesUnsigned, digits_value}
-use Rattle.std.proofs.lemmas.Fmt.{parse-decimal, decimal_is_IsNumeral}
+use Rattle.std.specs.Str.Parse.{ParsesUnsigned}
+use Rattle.std.proofs.lemmas.Fmt.{parse-decimal, decimal_injective}
 use Rattle.std.proofs.lemmas.Slice.Eq.{bytes_eq-Decides}
 use Rattle.std.specs.Prelude.{nat_eq}
 use Rattle.std.specs.Result.{result_ok}
@@ -93,14 +93,11 @@ means-init words a b c d m1 m2 m3 None are first rb rc rd some none = λ task me
 
 -- ---- one reading of the words
 
-decimal-same : (m n : ℕ) → m < 2 ^ 64 → n < 2 ^ 64 → decimal m ≡ decimal n → m ≡ n
-decimal-same m n below_m below_n e = sym (decimal_is_IsNumeral m below_m).1 ∙ ap (digits_value 10) e ∙ (decimal_is_IsNumeral n below_n).1
-
 -- words that ask for a store ask for one of these sizes alone
 pub same-sizes : (P : ℕ → ℕ → ℕ → Type 0) (words : List (String Global)) (e l s e' l' s' : ℕ) → IsInit words e l s → IsInit words e' l' s' → P e' l' s' → P e l s
 same-sizes P words e l s e' l' s' one other p =
     let lists : codes "init" ∷ decimal e' ∷ decimal l' ∷ decimal s' ∷ [] ≡ codes "init" ∷ decimal e ∷ decimal l ∷ decimal s ∷ [] = sym other.are ∙ one.are in
-    let e_is : e' ≡ e = decimal-same e' e (omega (arith, other.sizes.most)) (omega (arith, one.sizes.most)) (cc (lists)) in
-    let l_is : l' ≡ l = decimal-same l' l (let small = small-levels l' s' other.sizes.geometry in omega arith) (let small = small-levels l s one.sizes.geometry in omega arith) (cc (lists)) in
-    let s_is : s' ≡ s = decimal-same s' s (let small = small-slots l' s' other.sizes.geometry in omega arith) (let small = small-slots l s one.sizes.geometry in omega arith) (cc (lists)) in
+    let e_is : e' ≡ e = decimal_injective e' e (omega (arith, other.sizes.most)) (omega (arith, one.sizes.most)) (cc (lists)) in
+    let l_is : l' ≡ l = decimal_injective l' l (let small = small-levels l' s' other.sizes.geometry in omega arith) (let small = small-levels l s one.sizes.geometry in omega arith) (cc (lists)) in
+    let s_is : s' ≡ s = decimal_injective s' s (let small = small-slots l' s' other.sizes.geometry in omega arith) (let small = small-slots l s one.sizes.geometry in omega arith) (cc (lists)) in
     subst (λ k. P e l k) s_is (subst (λ k. P e k s') l_is (subst (λ k. P k l' s') e_is p))

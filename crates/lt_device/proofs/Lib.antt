@@ -4,5 +4,6 @@ pub mod Images
 pub mod Picks
 pub mod Rest
 pub mod Runs
+pub mod Shows
 pub mod Silent
 pub mod Steps

@@ -5,8 +5,7 @@ use Rattle.std.proofs.lemmas.Bool.{cases_eq, cases_lt}
 use Rattle.std.proofs.lemmas.List.{append-nil, drop_all, length-replicate, get_or_past}
 use Rattle.std.proofs.lemmas.List.Elements.{All-set}
 use Rattle.std.proofs.lemmas.List.Sums.{count_by_more_yes, count_by_more_no}
-use Rattle.lt_terms.specs.Bytes.{Image, IsBlock, AreBlocks, block_at}
-use Rattle.lt_page.specs.Page.{filled}
+use Rattle.lt_terms.specs.Bytes.{Image, IsBlock, AreBlocks, block_at, filled}
 use Rattle.lt_device.specs.declared.pick.Pick.{Pick}
 use Rattle.lt_device.specs.declared.pick.Pick.TheVariants.{Stable}
 use Rattle.lt_device.specs.Memory.{Memory, memory_state, IsPicked, left_at, picked, pick_of, filled_with}

@@ -53,6 +53,10 @@ pub record Leaves (P : Image → Type 0) (old new : State) : Type 0 where
   -- a device that tells what it reads as, and the images that a crash may leave, still tells both
   pub shows : (image : Image) → old.shown ≡ Some image → MayLeave old image → ShownNow new
 
+-- where a device tells what it reads as, it still tells it, and the same outside these blocks
+pub record ShowsSameOutside (inside : ℕ → Type 0) (old new : Option Image) : Type 0 where
+  pub each : (before : Image) → old ≡ Some before → (image : Image) × (new ≡ Some image) × SameOutside inside before image
+
 -- an image that agrees, outside these blocks, with one that a crash may leave at this state
 pub record IsNear (inside : ℕ → Type 0) (s : State) (left : Image) : Type 0 where
   pub image : Image

@@ -26,7 +26,7 @@ children_fit-first levels trie node from c cs h =
     let a = and_parts (c.node.level == node.level + 1) (nat_le from c.node.number) b.0 in
     record { level = eqb-true _ _ a.0; low = leb-true _ _ a.1; high = ltb-true _ _ b.1; tables = leb-true _ _ d.1; groups = e.1; rest = f.1 }
 
-not_same : (q id : NodeId) → (q ≡ id → ⊥) → same_node q id ≡ false
+pub not_same : (q id : NodeId) → (q ≡ id → ⊥) → same_node q id ≡ false
 not_same q id apart = false_from_ne_true (same_node q id) (λ e. apart (same_node-same q id e))
 
 pub child-elsewhere : (trie : Trie) (c : ChildChange) (q : NodeId) → (q ≡ c.node → ⊥) → node_at (after_child trie c) q ≡ node_at trie q

@@ -5,7 +5,7 @@ use Rattle.std.specs.List.{fold, list_all}
 use Rattle.std.proofs.Math.Nat.{pow-suc}
 use Rattle.std.proofs.lemmas.List.{length-take-le}
 use Rattle.std.proofs.lemmas.Bool.{and_parts, and_from, eqb-true, leb-true, ltb-true, lt-ltb, ne_eqb, eqb-false, not-true}
-use Rattle.lt_tables.specs.Filter.{is_in}
+use Rattle.lt_terms.specs.Numbers.{is_in}
 use Rattle.lt_format.specs.declared.node_id.NodeId.{NodeId}
 use Rattle.lt_format.specs.Trie.{Node, Trie, root, node_at, with_node, node_extents, named, is_node, is_last_level, is_shaped, groups_for, all_distinct, all_below, IsTrie}
 use Rattle.lt_format.specs.Changes.{Change, flush, deal, rewrite, ChildChange, new_extents, are_new, fits, shape_fits, groups_fit, children_fit, appended, child_after, after_child, without_oldest, after_change}
@@ -50,7 +50,7 @@ child-node levels trie node from c cs there inner first =
     let below : c.node.level < levels = let up : c.node.level ≡ node.level + 1 = first.level in omega arith in
     and_from (nat_lt c.node.level levels) (nat_lt c.node.number (8 ^ c.node.level)) (lt-ltb _ _ below) (lt-ltb _ _ number)
 
-higher : (q id : NodeId) → id.number + 1 ≤ q.number → q ≡ id → ⊥
+pub higher : (q id : NodeId) → id.number + 1 ≤ q.number → q ≡ id → ⊥
 higher q id above same = let number : q.number ≡ id.number = ap (λ (n : NodeId). n.number) same in omega arith
 
 children-fine : (levels extents : ℕ) (trie now : Trie) (node : NodeId) (from : ℕ) (cs : List ChildChange) → is_node levels node ≡ true → is_last_level levels node ≡ false → children_fit levels trie node from cs ≡ true

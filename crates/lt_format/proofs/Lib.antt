@@ -1,3 +1,4 @@
+pub mod AlikeLaws
 pub mod ChildLaws
 pub mod KeepLaws
 pub mod LocalLaws

@@ -16,7 +16,7 @@ use Rattle.lt_format.proofs.SpellLaws.{Spells, spells-rest, u8-reads, u16-reads,
 
 -- ---- one node
 
-eight_small : (level : ℕ) → level < 5 → 8 ^ level ≤ 4096
+pub eight_small : (level : ℕ) → level < 5 → 8 ^ level ≤ 4096
 eight_small zero h = omega arith
 eight_small (suc zero) h = omega arith
 eight_small (suc (suc zero)) h = omega arith

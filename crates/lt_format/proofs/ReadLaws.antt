@@ -8,7 +8,7 @@ use Rattle.std.specs.FinMap.Entries.{below_all}
 use Rattle.std.specs.List.{list_all}
 use Rattle.std.proofs.lemmas.Bool.{and_parts, and_from, not-true, leb-true, eqb-true, eq-eqb}
 use Rattle.lt_terms.specs.Bytes.{Image, block_at, u16_at, all_zero, same_bytes}
-use Rattle.lt_tables.specs.Filter.{is_in}
+use Rattle.lt_terms.specs.Numbers.{is_in}
 use Rattle.lt_format.specs.declared.node_id.NodeId.{NodeId}
 use Rattle.lt_format.specs.declared.geometry.Geometry.{Geometry}
 use Rattle.lt_format.specs.Layout.{is_geometry, geometry_of, blocks_needed, selected, selector_block}
@@ -35,7 +35,7 @@ pub ok_same : {A : Type 0} (x y : A) → ◌≡◌ {A = Result A ℕ} (Ok x) (Ok
 unfolding ok_or
 ok_same x y h = ap (ok_or x) h
 
-field_ok : (bytes : ℕ → ℕ) (limit : ℕ) (w : Width) (stands : ℕ → Bool) (at : ℕ) (p : ℕ × ℕ) → field bytes limit w stands at ≡ Ok p → stands p.0 ≡ true
+pub field_ok : (bytes : ℕ → ℕ) (limit : ℕ) (w : Width) (stands : ℕ → Bool) (at : ℕ) (p : ℕ × ℕ) → field bytes limit w stands at ≡ Ok p → stands p.0 ≡ true
 field_ok bytes limit w stands at p h = by_test (nat_le (at + byte_len w) limit && stands n) refl h
   where
     n : ℕ
@@ -166,11 +166,13 @@ nodes_ok bytes limit levels extents (suc n) last_id before at r once h =
 less_two : (n : ℕ) → n ≤ 1 → n < 2
 less_two n h = omega arith
 
-record IsFrontOf (g : Geometry) (blocks : ℕ) (f : Front) : Type 0 where
-  area : f.header.log_area < 2
-  extents : extents_stand g blocks f.header.extents ≡ true
+-- what a header that was read says; its length is at most that of the largest snapshot
+pub record IsFrontOf (g : Geometry) (blocks : ℕ) (f : Front) : Type 0 where
+  pub area : f.header.log_area < 2
+  pub extents : extents_stand g blocks f.header.extents ≡ true
+  pub short : f.total ≤ 1245224
 
-front_ok : (g : Geometry) (blocks : ℕ) (bytes : ℕ → ℕ) (f : Front) → front_read g blocks bytes ≡ Ok f → IsFrontOf g blocks f
+pub front_ok : (g : Geometry) (blocks : ℕ) (bytes : ℕ → ℕ) (f : Front) → front_read g blocks bytes ≡ Ok f → IsFrontOf g blocks f
 unfolding front_read
 front_ok g blocks bytes f h =
     let format = bind_ok (field bytes 40 w8 (λ n. n == 1) 0) _ f h in
@@ -183,7 +185,10 @@ front_ok g blocks bytes f h =
     let low = bind_ok (field bytes 40 w64 is_zero 32) _ f high.2 in
     let front : Front = record { header = record { log_area = area.0.0; extents = extents.0.0; writes = number_in w64 bytes 8 }; nodes = nodes.0.0; total = total.0.0 } in
     let small : area.0.0 ≤ 1 = leb-true area.0.0 1 (field_ok bytes 40 w8 (λ n. nat_le n 1) 1 area.0 area.1) in
-    subst (IsFrontOf g blocks) (ok_same front f low.2) (record { area = less_two area.0.0 small; extents = field_ok bytes 40 w32 (extents_stand g blocks) 4 extents.0 extents.1 })
+    let stands = field_ok bytes 40 w32 (extents_stand g blocks) 4 extents.0 extents.1 in
+    let few = leb-true _ _ (and_parts (nat_le 1 extents.0.0) (nat_le extents.0.0 65536) (and_parts _ (nat_le (blocks_needed g extents.0.0) blocks) stands).0).1 in
+    let short = leb-true _ _ (and_parts (nat_le 40 total.0.0) (nat_le total.0.0 (40 + 19 * extents.0.0)) (field_ok bytes 40 w32 (λ n. nat_le 40 n && nat_le n (40 + 19 * extents.0.0)) 20 total.0 total.1)).1 in
+    subst (IsFrontOf g blocks) (ok_same front f low.2) (record { area = less_two area.0.0 small; extents = stands; short = omega (arith, few, short) })
 
 -- what reading gives of a manifest
 pub record IsRead (g : Geometry) (blocks : ℕ) (m : Manifest) : Type 0 where

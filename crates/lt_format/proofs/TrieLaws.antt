@@ -1,27 +1,23 @@
 -- The node that a trie has after one was changed, and that its nodes keep rising.
-use Rattle.std.proofs.Common.{◌≡◌, refl, sym, ap, subst, ◌∙◌, Bool, true, false, not, cond, ◌&&◌, Option, Some, None}
-use Rattle.std.specs.Prelude.{T, length, ◌==◌, [], ◌∷◌}
+use Rattle.std.proofs.Common.{◌≡◌, refl, sym, ap, subst, ◌∙◌, Bool, true, false, not, cond, ◌&&◌, Option, Some, None, List, [], ◌∷◌, length, suc, arith, ℕ}
+use Rattle.std.specs.Prelude.{T, ◌==◌}
 use Rattle.std.specs.Option.{unwrap_or}
 use Rattle.std.specs.declared.cmp.Ordering.{Ordering}
 use Rattle.std.specs.declared.cmp.Ordering.TheVariants.{Less, Equal, Greater}
 use Rattle.std.specs.Ordering.{nat_cmp, ordering_then, is_eq, is_lt}
 use Rattle.std.specs.Cmp.{IsTotalOrder, nat_cmp_total, alike_right}
-use Rattle.std.proofs.lemmas.Cmp.{on_total, then_total, eq_by_cmp_equiv}
+use Rattle.std.proofs.lemmas.Cmp.{on_total, then_total, eq_by_cmp_equiv, tied_itself}
 use Rattle.std.specs.FinMap.{find, put, is_sorted, nat_cmp-IsAntisymmetric}
 use Rattle.std.specs.FinMap.Entries.{where_key, below_all, find-put, find-where_key, is_sorted-put, is_sorted-where_key}
-use Rattle.std.proofs.lemmas.Bool.{and_parts, true≢false}
+use Rattle.std.proofs.lemmas.Bool.{and_parts, ne_eqb, true≢false}
 use Rattle.lt_format.specs.declared.node_id.NodeId.{NodeId}
 use Rattle.lt_format.specs.Trie.{Node, Trie, node_cmp, same_node, empty_node, node_at, with_node}
+use Rattle.lt_tables.proofs.RankLaws.{is_equal}
 
 -- ---- names
 
 pub node_total : IsTotalOrder node_cmp
 node_total = then_total (on_total (λ (id : NodeId). id.level) nat_cmp_total) (on_total (λ (id : NodeId). id.number) nat_cmp_total)
-
-pub is_equal : (o : Ordering) → is_eq o ≡ true → o ≡ Equal
-is_equal Equal e = refl
-is_equal Less e = absurd (true≢false (sym e))
-is_equal Greater e = absurd (true≢false (sym e))
 
 pub is_less : (o : Ordering) → is_lt o ≡ true → o ≡ Less
 is_less Less e = refl
@@ -45,9 +41,19 @@ same_node-same a b e = node_exact a b (is_equal (node_cmp a b) e)
 
 -- ---- the node that is found
 
+pub same_node-itself : (id : NodeId) → same_node id id ≡ true
+same_node-itself id = ap is_eq (tied_itself node_total id)
+
 -- a node without tables is none
 abbrev pub if_any : Node → Node
 if_any node = cond (length node.tables == 0) empty_node node
+
+pub if_any-tables : (n : Node) → (if_any n).tables ≡ n.tables
+if_any-tables n = by_tables n.tables refl
+  where
+    by_tables : (ts : List ℕ) → n.tables ≡ ts → (cond (length ts == 0) empty_node n).tables ≡ n.tables
+    by_tables [] is = sym is
+    by_tables (t ∷ ts) is = ap (λ b. (cond b empty_node n).tables) (ne_eqb (suc (length ts)) 0 (λ e. omega arith))
 
 choose_put : (b : Bool) (node : Node) (before : Option Node) → unwrap_or (cond b (Some node) before) empty_node ≡ cond b node (unwrap_or before empty_node)
 choose_put true node before = refl

@@ -1,7 +1,7 @@
 -- What a commit changes of the trie.
 use Rattle.std.specs.Prelude.{ℕ, ◌+◌, ◌*◌, ◌/◌, Bool, true, not, ◌&&◌, List, [], ◌∷◌, ◌++◌, length, take, drop, nat_le, nat_lt, ◌==◌, if◌then◌else◌}
 use Rattle.std.specs.List.{flat_map, list_all, fold}
-use Rattle.lt_tables.specs.Filter.{is_in}
+use Rattle.lt_terms.specs.Numbers.{is_in}
 use Rattle.lt_format.specs.declared.node_id.NodeId.{NodeId}
 use Rattle.lt_format.specs.Trie.{Node, Trie, root, node_at, with_node, named, is_node, is_last_level, groups_for, all_distinct, all_below}
 

@@ -16,7 +16,6 @@ use Rattle.lt_terms.specs.Items.{Item, is_valid, is_key, item_cost, total_cost, 
 use Rattle.lt_terms.specs.Hashes.{key_suffix, rank_cmp}
 use Rattle.lt_tables.specs.declared.Entry.{Entry}
 use Rattle.lt_tables.specs.declared.ColumnPlan.{ColumnPlan}
-use Rattle.lt_tables.specs.Alike.{is_ranked}
 use Rattle.lt_tables.specs.Bucket.{Bucket, capacity, fits_bucket}
 use Rattle.lt_tables.specs.Merge.{newest}
 use Rattle.lt_tables.specs.Placement.{entry_of, placement_of, has_placement}
@@ -25,7 +24,7 @@ use Rattle.lt_tables.proofs.HashLaws.{home_column-small}
 use Rattle.lt_tables.proofs.FitLaws.{total, total-add}
 use Rattle.lt_tables.proofs.NewestLaws.{first, second}
 use Rattle.lt_tables.proofs.PlanLaws.{placement-fits, step_cost}
-use Rattle.lt_tables.proofs.RankedLaws.{newest-ranked}
+use Rattle.lt_tables.proofs.RankedLaws.{is_ranked, newest-ranked}
 use Rattle.lt_tables.proofs.TableLaws.{Fits, PlansFit}
 use Rattle.lt_balance.specs.Entries.{AreEntries}
 

@@ -1,20 +1,17 @@
 -- Blocks of an extent that are written one after another.
-use Rattle.std.proofs.Common.{◌≡◌, ◌≢◌, ℕ, ◌+◌, ◌<◌, ◌≤◌, refl, sym, ap, subst, ◌∙◌, List, [], Option, Some, arith, ⊎_elim}
+use Rattle.std.proofs.Common.{◌≡◌, ◌≢◌, ℕ, ◌+◌, ◌<◌, ◌≤◌, sym, ap, subst, ◌∙◌, List, [], Some, arith, ⊎_elim}
 use Rattle.std.proofs.lemmas.Bool.{cases_eq}
 use Rattle.lt_terms.specs.Bytes.{Image, block_at}
 use Rattle.lt_terms.specs.Items.{Item}
 use Rattle.lt_device.specs.State.{State, IsFit, Wrote, written}
-use Rattle.lt_device.proofs.Steps.{written_is, written_shown, wrote_others}
+use Rattle.lt_device.proofs.Steps.{written_is, written_shown}
 use Rattle.std.proofs.lemmas.List.{get_or-set_other}
 use Rattle.lt_tables.specs.declared.ColumnPlan.{ColumnPlan}
 use Rattle.lt_tables.specs.Bucket.{bucket_of}
 use Rattle.lt_tables.specs.Filter.{filter_block}
 use Rattle.lt_tables.specs.Placement.{placement_of}
 use Rattle.lt_tables.specs.Table.{blocks_from, bucket_in, IsPlaced}
-use Rattle.lt_htable.specs.Building.{HasBuckets, ShowsSameOutside}
-
-pub no_buckets : (plans : List ColumnPlan) (items : List Item) (first : ℕ) (shown : Option Image) → HasBuckets plans items first 0 shown
-no_buckets plans items first shown = record { each = λ image is c small. absurd (omega arith) }
+use Rattle.lt_htable.specs.Building.{HasBuckets}
 
 -- blocks that a write leaves
 left_alone : (b : ℕ) (old new : State) (page : List ℕ) → new ≡ written old b page → (image : Image) → new.shown ≡ Some image
@@ -58,24 +55,6 @@ placed-whole plans items first blocks b old new at below fit is placed has image
       buckets = (buckets-stay plans items first 64 64 old new (filter_block items) (omega arith) is_there has).each image shown;
       filters = written_shown blocks (first + 64) old new (filter_block items) fit (omega arith) is_there image shown;
     }
-
-pub shows-same : (inside : ℕ → Type 0) (shown : Option Image) → ShowsSameOutside inside shown shown
-shows-same inside shown = record { each = λ before is. (before, is, record { size = refl; others = λ k out. refl }) }
-
--- one write more within these blocks
-pub shows-more : {inside : ℕ → Type 0} {n b : ℕ} {start : Option Image} {old new : State} → Wrote n b old new → ShowsSameOutside inside start old.shown → inside b → ShowsSameOutside inside start new.shown
-shows-more {inside} {n} {b} {start} {old} {new} wrote so_far within = record {
-  each = λ before is.
-      let was = so_far.each before is in
-      let now = wrote_others n b old new was.0 wrote was.1 in (
-        now.0,
-        now.1,
-        record {
-          size = now.2.size ∙ was.2.size;
-          others = λ k out. now.2.others k (λ same. out (subst inside (sym same) within)) ∙ was.2.others k out;
-        },
-      );
-}
 
 pub same_past : {n b : ℕ} {old new : State} → Wrote n b old new → new.past ≡ old.past
 same_past {n} {b} {old} {new} wrote = ap (λ (s : State). s.past) wrote.is

@@ -5,15 +5,10 @@ use Rattle.lt_terms.specs.Items.{Item}
 use Rattle.lt_tables.specs.declared.ColumnPlan.{ColumnPlan}
 use Rattle.lt_tables.specs.Bucket.{bucket_of}
 use Rattle.lt_tables.specs.Table.{blocks_from, bucket_in}
-use Rattle.lt_device.specs.Image.{SameOutside}
 
 -- a block of the extent that begins at block first
 abbrev pub InExtent : ℕ → ℕ → Type 0
 InExtent first k = (first ≤ k) × (k < first + 65)
-
--- where a device tells what it reads as, it still tells it, and the same outside these blocks
-pub record ShowsSameOutside (inside : ℕ → Type 0) (old new : Option Image) : Type 0 where
-  pub each : (before : Image) → old ≡ Some before → (image : Image) × (new ≡ Some image) × SameOutside inside before image
 
 -- where a device tells what it reads as, the first n blocks spell these buckets
 pub record HasBuckets (plans : List ColumnPlan) (items : List Item) (first n : ℕ) (shown : Option Image) : Type 0 where

@@ -3,13 +3,13 @@
 ghost use Rattle.std.specs.Prelude.{◌≡◌, ℕ, ◌+◌, ◌<◌, ◌≤◌, Some, IfOk, OnOk, IsErrOf, IsTrue, length, map};
 ghost use Rattle.lt_terms.specs.Bytes.{Image};
 ghost use Rattle.lt_terms.specs.Causes.{HasCause, Rose};
-ghost use Rattle.lt_device.specs.Moments.{ConfinedTo};
+ghost use Rattle.lt_device.specs.Moments.{ConfinedTo, ShowsSameOutside};
 ghost use Rattle.lt_tables.specs.Bucket.{fits_bucket};
 ghost use Rattle.lt_tables.specs.Filter.{filter_block};
 ghost use Rattle.lt_tables.specs.Merge.{newest};
 ghost use Rattle.lt_tables.specs.Placement.{entry_of, has_placement};
 ghost use Rattle.lt_tables.specs.Table.{bucket_in, blocks_from, IsPlaced};
-ghost use Rattle.lt_htable.specs.Building.{HasBuckets, InExtent, ShowsSameOutside};
+ghost use Rattle.lt_htable.specs.Building.{HasBuckets, InExtent};
 
 use super::extent::block_in;
 use super::faults::BuildFault;

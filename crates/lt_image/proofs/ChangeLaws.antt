@@ -1,14 +1,15 @@
 -- The piles of the trie after a change, and what stays true of its nodes.
-use Rattle.std.proofs.Common.{◌≡◌, ℕ, refl, sym, ap, subst, ◌∙◌, List, [], ◌∷◌, ◌++◌, length, Bool, true, false, not, cond, arith, eqb-true}
+use Rattle.std.proofs.Common.{◌≡◌, ℕ, refl, ap, subst, ◌∙◌, List, [], ◌∷◌, ◌++◌, length, Bool, true, false, not, cond}
 use Rattle.std.specs.Prelude.{◌==◌}
 use Rattle.std.specs.declared.cmp.Ordering.TheVariants.{Less, Equal, Greater}
 use Rattle.std.specs.FinMap.{put}
 use Rattle.std.specs.FinMap.Entries.{where_key, by_order}
-use Rattle.std.specs.List.{filter, AllByRecursion}
+use Rattle.std.specs.List.{AllByRecursion}
 use Rattle.lt_format.specs.declared.node_id.NodeId.{NodeId}
-use Rattle.lt_format.specs.Trie.{Node, Trie, root, path, path_number, node_cmp, same_node, node_at, with_node, empty_node}
+use Rattle.lt_format.specs.Trie.{Node, Trie, root, path, path_number, node_cmp, same_node, node_at, with_node}
 use Rattle.lt_format.specs.Changes.{flush, appended, after_change}
-use Rattle.lt_format.proofs.TrieLaws.{node_exact, if_any, node_at-with_node}
+use Rattle.lt_format.proofs.TrieLaws.{node_exact, if_any, node_at-with_node, if_any-tables}
+use Rattle.lt_tables.proofs.ListLaws.{all_filter}
 
 -- ---- a fact of all nodes
 
@@ -21,12 +22,8 @@ put_all P id node (e ∷ es) p all =
       | Greater ↦ λ t. (all.0, put_all P id node es p all.1)
     ] refl
 
-filter_all : (P : NodeId × Node → Type 0) (test : NodeId × Node → Bool) (es : Trie) → AllByRecursion P es → AllByRecursion P (filter test es)
-filter_all P test [] all = tt
-filter_all P test (e ∷ es) all = elim (test e) as (λ b. AllByRecursion P (cond b (e ∷ filter test es) (filter test es))) [ true ↦ (all.0, filter_all P test es all.1) | false ↦ filter_all P test es all.1 ]
-
 with_all : (P : NodeId × Node → Type 0) (id : NodeId) (node : Node) (es : Trie) (none : Bool) → P (id, node) → AllByRecursion P es → AllByRecursion P (cond none (where_key node_cmp (λ x. not (same_node id x)) es) (put node_cmp id node es))
-with_all P id node es true p all = filter_all P (λ e. not (same_node id e.0)) es all
+with_all P id node es true p all = all_filter P (λ e. not (same_node id e.0)) es all
 with_all P id node es false p all = put_all P id node es p all
 
 -- what holds of all nodes and of a new one holds of all nodes after it is put
@@ -35,17 +32,6 @@ unfolding with_node
 with_node-all P trie id node p all = with_all P id node trie (length node.tables == 0) p all
 
 -- ---- the piles after a change
-
-no_tables : (xs : List ℕ) → (length xs == 0) ≡ true → xs ≡ []
-no_tables [] e = refl
-no_tables (x ∷ xs) e = let h : length (x ∷ xs) ≡ 0 = eqb-true (length (x ∷ xs)) 0 e in absurd (omega arith)
-
-if_any_by : (node : Node) (none : Bool) → (length node.tables == 0) ≡ none → (cond none empty_node node).tables ≡ node.tables
-if_any_by node true e = sym (no_tables node.tables e)
-if_any_by node false e = refl
-
-pub if_any-tables : (node : Node) → (if_any node).tables ≡ node.tables
-if_any-tables node = if_any_by node (length node.tables == 0) refl
 
 cond_tables : (b : Bool) (m n : Node) → (cond b m n).tables ≡ cond b m.tables n.tables
 cond_tables true m n = refl

@@ -1,9 +1,8 @@
 -- A flush keeps what each key has.
-use Rattle.std.proofs.Common.{◌≡◌, ℕ, zero, suc, ◌<◌, refl, sym, ap, ◌∙◌, List, ◌++◌, Bool, true, false, cond, Option, arith}
+use Rattle.std.proofs.Common.{◌≡◌, ℕ, zero, suc, sym, ap, ◌∙◌, List, ◌++◌, false, cond, arith}
 use Rattle.std.specs.List.{flat_map, AllByRecursion}
 use Rattle.std.specs.Option.{option_or}
 use Rattle.std.proofs.lemmas.List.Concat.{flat_map-append}
-use Rattle.std.proofs.lemmas.Cmp.{eq_by_cmp_equiv}
 use Rattle.lt_terms.specs.Items.{Item}
 use Rattle.lt_tables.specs.Merge.{newest_of}
 use Rattle.lt_tables.specs.Alike.{SameNewest}
@@ -12,9 +11,10 @@ use Rattle.lt_format.specs.declared.node_id.NodeId.{NodeId}
 use Rattle.lt_format.specs.Trie.{Trie, root, path, same_node, node_at}
 use Rattle.lt_format.specs.Changes.{flush, after_change}
 use Rattle.lt_image.proofs.ChangeLaws.{tables-flush, path-root}
-use Rattle.lt_format.proofs.TrieLaws.{node_total, same_node-same}
+use Rattle.lt_format.proofs.TrieLaws.{same_node-itself}
 use Rattle.lt_image.proofs.Words.{on_level, on_path}
 use Rattle.lt_image.proofs.PathLaws.{newest_or-is, option_or-assoc}
+use Rattle.lt_format.proofs.ChildLaws.{not_same}
 
 -- the tables that a trie names hold under `new` what they held under `old`
 pub record KeepsTables (old new : ℕ → List Item) (trie : Trie) : Type 0 where
@@ -24,20 +24,7 @@ kept_pile : (old new : ℕ → List Item) (trie : Trie) (id : NodeId) (key : Lis
 kept_pile old new trie id key k = (SameNewest-each new old (node_at trie id).tables (k.each id)).each key
 
 pub other_level : (a b : NodeId) → (a.level ≡ b.level → ⊥) → same_node a b ≡ false
-other_level a b apart = decide (same_node a b) refl
-  where
-    decide : (s : Bool) → same_node a b ≡ s → same_node a b ≡ false
-    decide true e = absurd (apart (ap (λ (id : NodeId). id.level) (same_node-same a b e)))
-    decide false e = e
-
-pub itself : (id : NodeId) → same_node id id ≡ true
-itself id = (eq_by_cmp_equiv node_total).refl id
-
--- ---- on a path
-
-on_path-same : (f g : ℕ → Option Item) (n : ℕ) → ((level : ℕ) → level < n → f level ≡ g level) → on_path f n ≡ on_path g n
-on_path-same f g zero h = refl
-on_path-same f g (suc n) h = ap (λ o. option_or o (f n)) (on_path-same f g n (λ level small. h level (omega arith))) ∙ ap (option_or (on_path g n)) (h n (omega arith))
+other_level a b apart = not_same a b (λ e. apart (ap (λ (id : NodeId). id.level) e))
 
 -- ---- a flush
 
@@ -45,7 +32,7 @@ flush_level_0 : (old new : ℕ → List Item) (trie : Trie) (tables : List ℕ) 
     → on_level new (after_change trie (flush tables)) key 0 ≡ option_or (newest_of key (flat_map new tables)) (on_level old trie key 0)
 flush_level_0 old new trie tables key k =
     let is_root : path key 0 ≡ root = path-root key in
-    ap (λ xs. newest_of key (flat_map new xs)) (tables-flush trie tables (path key 0) ∙ ap (λ b. cond b ((node_at trie root).tables ++ tables) (node_at trie (path key 0)).tables) (ap (λ id. same_node id root) is_root ∙ itself root))
+    ap (λ xs. newest_of key (flat_map new xs)) (tables-flush trie tables (path key 0) ∙ ap (λ b. cond b ((node_at trie root).tables ++ tables) (node_at trie (path key 0)).tables) (ap (λ id. same_node id root) is_root ∙ same_node-itself root))
     ∙ ap (newest_of key) (flat_map-append new (node_at trie root).tables tables)
     ∙ newest_of-append key (flat_map new (node_at trie root).tables) (flat_map new tables)
     ∙ newest_or-is (newest_of key (flat_map new (node_at trie root).tables)) (newest_of key (flat_map new tables))

@@ -1,5 +1,5 @@
 -- A trie with no node but the root: the tables on each path and the extents that it names are the root's pile.
-use Rattle.std.proofs.Common.{◌≡◌, ℕ, zero, suc, ◌+◌, ◌≤◌, refl, sym, ap, subst, ◌∙◌, List, [], ◌∷◌, ◌++◌, length, true, false, cond, Some, None, arith, append-nil, true≢false}
+use Rattle.std.proofs.Common.{◌≡◌, ℕ, zero, suc, ◌+◌, ◌≤◌, refl, sym, ap, subst, ◌∙◌, List, [], ◌∷◌, ◌++◌, true, false, cond, Some, None, arith, append-nil, true≢false}
 use Rattle.std.specs.Prelude.{IsTrue}
 use Rattle.std.specs.Ordering.{is_lt, is_eq}
 use Rattle.std.specs.declared.cmp.Ordering.{Ordering}
@@ -12,14 +12,15 @@ use Rattle.std.proofs.lemmas.Bool.{and_parts, and_from, ne_eqb}
 use Rattle.lt_format.specs.declared.node_id.NodeId.{NodeId}
 use Rattle.lt_format.specs.Trie.{Node, Trie, root, path, node_cmp, same_node, node_at, with_node, named, node_extents, empty_node, is_last_level, IsTrie}
 use Rattle.lt_format.specs.Changes.{flush, appended, after_change}
-use Rattle.lt_format.proofs.TrieLaws.{same_node-same}
+use Rattle.lt_format.proofs.TrieLaws.{same_node-same, same_node-itself}
 use Rattle.lt_format.proofs.ShapeLaws.{shaped-inner, node_at-shaped}
 use Rattle.lt_image.specs.OnPath.{Stop, first_some, at_stops, stops_of, stops, has_only_root}
 use Rattle.lt_terms.specs.Items.{Item}
 use Rattle.lt_tables.specs.Merge.{newest_of}
 use Rattle.lt_image.proofs.PathLaws.{first_some-pile}
 use Rattle.lt_image.proofs.ChangeLaws.{with_node-all, path-root, tables-flush}
-use Rattle.lt_image.proofs.KeepLaws.{other_level, itself}
+use Rattle.lt_image.proofs.KeepLaws.{other_level}
+use Rattle.std.proofs.lemmas.List.{nil_from_length}
 
 all_to : (trie : Trie) → has_only_root trie ≡ true → AllByRecursion (λ (e : NodeId × Node). same_node e.0 root ≡ true) trie
 all_to [] h = tt
@@ -71,7 +72,7 @@ not_below id (e ∷ es) here below h =
     let parts = and_parts (same_node e.0 root) (has_only_root es) h in
     let less : is_lt (node_cmp id e.0) ≡ true = (and_parts (is_lt (node_cmp id e.0)) (below_all node_cmp id es) below).0 in
     let is : id ≡ e.0 = same_node-same id root here ∙ sym (same_node-same e.0 root parts.0) in
-    absurd (both (node_cmp id e.0) less (subst (λ q. same_node id q ≡ true) is (itself id)))
+    absurd (both (node_cmp id e.0) less (subst (λ q. same_node id q ≡ true) is (same_node-itself id)))
   where
     both : (o : Ordering) → is_lt o ≡ true → is_eq o ≡ true → ⊥
     both Less a b = true≢false (sym b)
@@ -85,19 +86,15 @@ root_extents (e ∷ es) rising h =
     let order = and_parts (below_all node_cmp e.0 es) (is_sorted node_cmp es) rising in
     let parts = and_parts (same_node e.0 root) (has_only_root es) h in
     let is : e.0 ≡ root = same_node-same e.0 root parts.0 in
-    let found : same_node root e.0 ≡ true = subst (λ q. same_node root q ≡ true) (sym is) (itself root) in
+    let found : same_node root e.0 ≡ true = subst (λ q. same_node root q ≡ true) (sym is) (same_node-itself root) in
     ap (λ rest. node_extents e.1 ++ named rest) (not_below e.0 es parts.0 order.0 parts.1)
     ∙ append-nil (node_extents e.1)
     ∙ ap (λ b. node_extents (unwrap_or (cond b (Some e.1) (find node_cmp root es)) empty_node)) (sym found)
 
-no_numbers : (xs : List ℕ) → length xs ≡ 0 → xs ≡ []
-no_numbers [] h = refl
-no_numbers (x ∷ xs) h = absurd (omega arith)
-
 pub root-bare : (levels extents : ℕ) (trie : Trie) → 2 ≤ levels → IsTrie levels extents trie → (node_at trie root).groups ≡ []
 root-bare levels extents trie deep t =
     let inner : is_last_level levels root ≡ false = ne_eqb (0 + 1) levels (λ e. absurd (omega arith)) in
-    no_numbers (node_at trie root).groups (shaped-inner levels extents root (node_at trie root) inner (node_at-shaped levels extents trie root t.nodes)).1
+    nil_from_length (node_at trie root).groups (shaped-inner levels extents root (node_at trie root) inner (node_at-shaped levels extents trie root t.nodes)).1
 
 pub root-named : (levels extents : ℕ) (trie : Trie) → 2 ≤ levels → IsTrie levels extents trie → IsTrue (has_only_root trie) → named trie ≡ (node_at trie root).tables
 root-named levels extents trie deep t h =
@@ -107,7 +104,7 @@ root-named levels extents trie deep t h =
 
 pub root-flush : (trie : Trie) (tables : List ℕ) → IsTrue (has_only_root trie) → IsTrue (has_only_root (after_change trie (flush tables)))
 unfolding after_change
-root-flush trie tables h = all_from (with_node trie root (appended (node_at trie root) tables)) (with_node-all (λ e. same_node e.0 root ≡ true) trie root (appended (node_at trie root) tables) (itself root) (all_to trie h))
+root-flush trie tables h = all_from (with_node trie root (appended (node_at trie root) tables)) (with_node-all (λ e. same_node e.0 root ≡ true) trie root (appended (node_at trie root) tables) (same_node-itself root) (all_to trie h))
 
 pub root-tables : (trie : Trie) (tables : List ℕ) → (node_at (after_change trie (flush tables)) root).tables ≡ (node_at trie root).tables ++ tables
-root-tables trie tables = tables-flush trie tables root ∙ ap (λ b. cond b ((node_at trie root).tables ++ tables) (node_at trie root).tables) (itself root)
+root-tables trie tables = tables-flush trie tables root ∙ ap (λ b. cond b ((node_at trie root).tables ++ tables) (node_at trie root).tables) (same_node-itself root)

@@ -25,6 +25,7 @@ use Rattle.lt_image.specs.Soundness.{block_if, located_items, stray_columns, bad
 use Rattle.lt_image.specs.OnPath.{at_stops, found}
 use Rattle.lt_image.proofs.Words.{Belongs, PileBelongs, IsSorted}
 use Rattle.lt_image.proofs.PathLaws.{newest_or-is, newest_of-found, value_at-map_of}
+use Rattle.std.proofs.lemmas.List.{map-append}
 
 -- ---- nothing in a joined list
 
@@ -54,14 +55,10 @@ located_of : (c : ℕ) (items : List Item) → map (λ (found : ℕ × Item). fo
 located_of c [] = refl
 located_of c (v ∷ items) = ap (λ xs. v ∷ xs) (located_of c items)
 
-map_append : {A B : Type 0} (f : A → B) (xs ys : List A) → map f (xs ++ ys) ≡ map f xs ++ map f ys
-map_append f [] ys = refl
-map_append f (x ∷ xs) ys = ap (λ zs. f x ∷ zs) (map_append f xs ys)
-
 located_all : (block : ℕ → List ℕ) (cs : List ℕ) → map (λ (found : ℕ × Item). found.1) (flat_map (λ c. map (λ item. (c, item)) (items_on (block c))) cs) ≡ flat_map (λ c. items_on (block c)) cs
 located_all block [] = refl
 located_all block (c ∷ cs) =
-    map_append (λ (found : ℕ × Item). found.1) (map (λ item. (c, item)) (items_on (block c))) (flat_map (λ c. map (λ item. (c, item)) (items_on (block c))) cs)
+    map-append (λ (found : ℕ × Item). found.1) (map (λ item. (c, item)) (items_on (block c))) (flat_map (λ c. map (λ item. (c, item)) (items_on (block c))) cs)
     ∙ ap (λ xs. xs ++ map (λ (found : ℕ × Item). found.1) (flat_map (λ c. map (λ item. (c, item)) (items_on (block c))) cs)) (located_of c (items_on (block c)))
     ∙ ap (λ xs. items_on (block c) ++ xs) (located_all block cs)
 

@@ -9,10 +9,10 @@ use Rattle.lt_terms.specs.Items.{Item}
 use Rattle.lt_tables.specs.Merge.{newest}
 use Rattle.lt_tables.specs.Cut.{cut, IsTable}
 use Rattle.lt_tables.specs.Table.{IsPlaced}
-use Rattle.lt_tables.specs.Alike.{SameNewest, is_ranked}
+use Rattle.lt_tables.specs.Alike.{SameNewest}
 use Rattle.lt_tables.proofs.NewestLaws.{SameNewest-flat_map, SameNewest-newest, SameNewest-trans}
 use Rattle.lt_tables.proofs.CutLaws.{cut-joined, cut-tables}
-use Rattle.lt_tables.proofs.RankedLaws.{ranked-newest, newest-ranked, ranked-take, ranked-drop, pieces_all, each_take, each_drop, each_newest}
+use Rattle.lt_tables.proofs.RankedLaws.{is_ranked, ranked-newest, newest-ranked, ranked-take, ranked-drop, pieces_all, each_newest}
 use Rattle.lt_tables.proofs.ValidLaws.{AllValid}
 use Rattle.lt_tables.proofs.TableLaws.{SameNewest-placed}
 use Rattle.lt_tables.proofs.PlanLaws.{placement-within}
@@ -31,6 +31,7 @@ use Rattle.lt_image.specs.After.{Follows, PlacedIn, Flushes}
 use Rattle.lt_image.proofs.SoundLaws.{sound-sorted}
 use Rattle.lt_image.proofs.MapLaws.{flush-map}
 use Rattle.lt_image.proofs.AfterLaws.{NewTable, SoundNodes, flush-nodes, sound_by_nodes, sound_nodes}
+use Rattle.lt_tables.proofs.ListLaws.{all_take, all_drop}
 
 -- ---- tables of a cut
 
@@ -48,8 +49,8 @@ parts id (x ∷ xs) a b c d = (record { ranked = a.0; valid = b.0; belong = c.0;
 cut_parts : (id : NodeId) (items : List Item) → T (is_ranked items) → AllValid items → Belongs id items → AllByRecursion (IsPart id) (cut items)
 cut_parts id items ranked valid belong = parts id (cut items)
     (pieces_all (λ p. T (is_ranked p)) ranked-take ranked-drop _ items ranked)
-    (pieces_all AllValid (λ n xs. each_take _ n xs) (λ n xs. each_drop _ n xs) _ items valid)
-    (pieces_all (Belongs id) (λ n xs. each_take _ n xs) (λ n xs. each_drop _ n xs) _ items belong)
+    (pieces_all AllValid (λ n xs. all_take _ n xs) (λ n xs. all_drop _ n xs) _ items valid)
+    (pieces_all (Belongs id) (λ n xs. all_take _ n xs) (λ n xs. all_drop _ n xs) _ items belong)
     (cut-tables items valid)
 
 new_table : (g : Geometry) (image : Image) (id : NodeId) (x : ℕ) (items : List Item) → IsPart id items → IsPlaced items (extent_in g image x) → NewTable id (extent_in g image x)

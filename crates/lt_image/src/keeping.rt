@@ -4,7 +4,7 @@ ghost use Rattle.std.specs.Prelude.{◌≡◌, ℕ, ◌+◌, ◌<◌, ◌≤◌,
 ghost use Rattle.lt_terms.specs.Bytes.{Image, block_at};
 ghost use Rattle.lt_terms.specs.Items.{Item};
 ghost use Rattle.lt_language.specs.Machine.{State, nothing_yet, after_write};
-ghost use Rattle.lt_tables.specs.Filter.{is_in};
+ghost use Rattle.lt_terms.specs.Numbers.{is_in};
 ghost use Rattle.lt_format.specs.Layout.{extent_block, extent_blocks};
 ghost use Rattle.lt_format.specs.Naming.{Named, manifest_of};
 ghost use Rattle.lt_format.specs.Trie.{named};

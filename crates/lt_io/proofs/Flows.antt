@@ -1,5 +1,5 @@
 -- What a source hands out, and what a sink gains, over several calls.
-use Rattle.std.proofs.Common.{◌≡◌, ℕ, ◌+◌, ◌-◌, ◌<◌, arith, refl, sym, ap, ◌∙◌, List, [], ◌++◌, length, take, drop, Option, Some, None, Result, Ok, Err, OnErr, append_assoc}
+use Rattle.std.proofs.Common.{◌≡◌, ℕ, ◌+◌, ◌-◌, ◌<◌, arith, refl, sym, ap, ◌∙◌, List, [], ◌++◌, length, take, drop, Option, Some, None, append_assoc}
 use Rattle.std.proofs.lemmas.List.{take_rest, append-nil, take-append-drop, take-take}
 use Rattle.std.proofs.Math.Seq.{take-add}
 use Rattle.lt_io.specs.Source.{Takes}
@@ -69,8 +69,3 @@ pub GainsFront-unfinished : (old between new : List ℕ → Type 0) (bytes : Lis
 GainsFront-unfinished old between new bytes written within first then =
     let same : take written (take (length bytes - 1) bytes) ≡ take written bytes = take-take written (length bytes - 1) bytes (omega (arith, within)) in
     (omega (arith, within), GainsFront-stopped old between new (take (length bytes - 1) bytes) written (rw same first) then)
-
--- what holds in any case holds after a failure
-pub OnErr-always : {T E P : Type 0} (r : Result T E) → P → OnErr r P
-OnErr-always (Ok x) p = tt
-OnErr-always (Err e) p = p

@@ -1,6 +1,7 @@
 -- Sources and sinks in memory.
-use Rattle.std.specs.Prelude.{◌≡◌, ℕ, ◌-◌, List, [], ◌∷◌, ◌++◌, length, drop, min, Bool, ◌||◌, ◌==◌, nat_le, nat_lt, filter}
-use Rattle.std.specs.List.{flat_map, list_any}
+use Rattle.std.specs.Prelude.{◌≡◌, ℕ, ◌-◌, List, [], ◌∷◌, ◌++◌, length, drop, min, Bool, ◌||◌, nat_le, nat_lt, filter}
+use Rattle.std.specs.List.{flat_map}
+use Rattle.lt_terms.specs.Numbers.{is_in}
 
 -- the pieces that have bytes
 abbrev pub nonempty : List (List ℕ) → List (List ℕ)
@@ -14,10 +15,6 @@ bytes_of pieces = flat_map (λ piece. piece) pieces
 abbrev pub HandsOut : ℕ → List (List ℕ) → List (List ℕ) → Type 0
 HandsOut n [] after = (n ≡ 0) × (after ≡ [])
 HandsOut n (piece ∷ pieces) after = (n ≡ min (length piece) 4096) × (after ≡ nonempty (drop n piece ∷ []) ++ pieces)
-
--- the call with this number is listed
-abbrev pub is_listed : ℕ → List ℕ → Bool
-is_listed call calls = list_any (λ listed. listed == call) calls
 
 -- a source in memory: the pieces left, none of them empty; the numbers of the reads that fail, the
 -- number of the next read, the pieces taken and the faults
@@ -45,7 +42,7 @@ pub record MemoryOutput : Type 0 where
 
 -- a write that is listed fails, and so does one with no room left
 abbrev pub refuses : MemoryOutput → Bool
-refuses sink = is_listed sink.next_call sink.failing_calls || nat_le sink.room_limit (length sink.taken_bytes)
+refuses sink = is_in sink.next_call sink.failing_calls || nat_le sink.room_limit (length sink.taken_bytes)
 
 -- how many of so many bytes it takes
 abbrev pub taken_of : MemoryOutput → ℕ → ℕ

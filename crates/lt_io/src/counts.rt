@@ -1,6 +1,6 @@
 ghost use Rattle.std.specs.Prelude.{◌≡◌};
 ghost use Rattle.lt_terms.specs.Causes.{next_count};
-ghost use Rattle.lt_io.specs.Memory.{is_listed};
+ghost use Rattle.lt_terms.specs.Numbers.{is_in};
 
 // A count stands still at its type's end.
 pub(super) fn risen(count: u64) -> u64
@@ -10,7 +10,7 @@ pub(super) fn risen(count: u64) -> u64
 }
 
 pub(super) fn is_listed(call: u64, calls: &[u64]) -> bool
-    ensures { result ≡ is_listed call calls.now }
+    ensures { result ≡ is_in call calls.now }
 {
     calls.iter().any(|listed| *listed == call)
 }

@@ -1,7 +1,8 @@
 ghost use Rattle.std.specs.Prelude.{◌≡◌, ℕ, ◌<◌, ◌≤◌, List, [], Option, Some, IfOk, OnErr, IsErr, IsOk, IsTrue, ◌↔◌, take, map};
 ghost use Rattle.lt_terms.specs.Causes.{HasCause, next_count};
+ghost use Rattle.lt_terms.specs.Numbers.{is_in};
 ghost use Rattle.lt_io.specs.Source.{Takes, IsAtEnd, pieces_after};
-ghost use Rattle.lt_io.specs.Memory.{nonempty, bytes_of, is_listed, HandsOut};
+ghost use Rattle.lt_io.specs.Memory.{nonempty, bytes_of, HandsOut};
 
 use super::counts::{is_listed, risen};
 use super::pieces::Pieces;
@@ -43,7 +44,7 @@ impl MemSource {
     }
 
     fn next_fails(&mut self) -> bool
-        ensures fails { IsTrue result ↔ IsTrue (is_listed self.old.next_call self.old.failing_calls) }
+        ensures fails { IsTrue result ↔ IsTrue (is_in self.old.next_call self.old.failing_calls) }
         ensures next { self.new ≡ record self.old { next_call = next_count self.old.next_call } }
     {
         let fails = is_listed(self.next, &self.failing);
@@ -71,7 +72,7 @@ impl Source for MemSource {
         ensures err_pieces { OnErr result (self.new.taken_pieces ≡ self.old.taken_pieces) }
 
         // It fails where it is told to, and hands out a piece at a time.
-        ensures fails { IsErr result ↔ IsTrue (is_listed self.old.next_call self.old.failing_calls) }
+        ensures fails { IsErr result ↔ IsTrue (is_in self.old.next_call self.old.failing_calls) }
         ensures hands_out { IfOk result (λ n. HandsOut n self.old.left_pieces self.new.left_pieces) }
         ensures ok_all { IfOk result (λ n. self.new ≡ record self.old { left_pieces = self.new.left_pieces; next_call = next_count self.old.next_call; taken_pieces = pieces_after n self.old.taken_pieces }) }
         ensures err_all { OnErr result (self.new ≡ record self.old { next_call = next_count self.old.next_call; fault_count = next_count self.old.fault_count }) }

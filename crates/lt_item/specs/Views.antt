@@ -1,6 +1,6 @@
 -- Borrowed items as items, and items in bytes.
 use Rattle.std.specs.Prelude.{◌≡◌, ℕ, ◌+◌, ◌≤◌, List, [], ◌∷◌, ◌++◌, length, take, drop}
-use Rattle.lt_terms.specs.Bytes.{u16}
+use Rattle.lt_terms.specs.Bytes.{u16, filled}
 use Rattle.lt_terms.specs.Items.{Item, item_cost, kind_byte, spelling}
 use Rattle.lt_item.specs.declared.view.ItemView.{ItemView}
 
@@ -20,13 +20,9 @@ header_of item = (kind_byte item.kind ∷ length item.key ∷ []) ++ u16 (length
 abbrev pub item_written : List ℕ → ℕ → Item → List ℕ
 item_written old at item = take at old ++ spelling item ++ drop (at + item_cost item) old
 
--- these bytes, put from a place on
-abbrev pub put_at : List ℕ → ℕ → List ℕ → List ℕ
-put_at old at bytes = take at old ++ bytes ++ drop (at + length bytes) old
-
 -- the header, the key and the value, put one behind the other, are the item written
 abbrev pub WritesInParts : Item → List ℕ → ℕ → Type 0
 WritesInParts item old at =
     let key_at = at + 4 in
     let value_at = key_at + length item.key in
-    at ≤ length old → put_at (put_at (put_at old at (header_of item)) key_at item.key) value_at item.value ≡ item_written old at item
+    at ≤ length old → filled (filled (filled old at (header_of item)) key_at item.key) value_at item.value ≡ item_written old at item

@@ -3,7 +3,8 @@
 ghost use Rattle.std.specs.Prelude.{◌≡◌, ◌+◌, ◌≤◌, length, drop, Some, IsTrue, IfSome};
 ghost use Rattle.std.specs.Option.{option_map};
 ghost use Rattle.lt_terms.specs.Items.{is_valid, item_cost, front_item, cut_item, kind_byte, kind_of_byte};
-ghost use Rattle.lt_item.specs.Views.{item_of, found_in, header_of, item_written, put_at};
+ghost use Rattle.lt_terms.specs.Bytes.{filled};
+ghost use Rattle.lt_item.specs.Views.{item_of, found_in, header_of, item_written};
 
 use crate::view::{ItemView, cost};
 use lt_terms::Kind;
@@ -99,7 +100,7 @@ fn kind_of(byte: u8) -> Option<Kind>
 
 fn put_bytes(into: &mut [u8], at: usize, bytes: &[u8]) -> usize
     requires { at + length bytes.now ≤ length into.old }
-    ensures written { into.new ≡ put_at into.old at bytes.now }
+    ensures written { into.new ≡ filled into.old at bytes.now }
     ensures after { result ≡ at + length bytes.now }
 {
     let end = at + bytes.len();

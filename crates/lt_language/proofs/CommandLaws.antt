@@ -1,10 +1,10 @@
 -- The commands that lines are keep to the limits of keys and values.
-use Rattle.std.proofs.Common.{◌≡◌, ℕ, ◌+◌, ◌≤◌, refl, List, [], take, drop, length, Bool, true, false, ◌&&◌, cond, Option, Some, None, IsTrue, nat_le, nat_lt, arith, inl, inr}
+use Rattle.std.proofs.Common.{◌≡◌, ℕ, ◌+◌, refl, List, take, drop, length, Bool, true, false, ◌&&◌, cond, Option, Some, None, nat_le, nat_lt, inl, inr}
 use Rattle.std.specs.List.{position}
 use Rattle.std.proofs.lemmas.Bool.{cases_Bool}
 use Rattle.lt_terms.specs.Items.{is_key}
-use Rattle.lt_language.specs.declared.Bad.TheVariants.{Long, Syntax, Key, Value}
-use Rattle.lt_language.specs.Commands.{Command, put, delete, get, stat, bad, is_space, has_space, is_word_key, keyed, valued, put_split, put_command, get_command, delete_command, begins_put, begins_get, begins_delete, is_stat, command_of}
+use Rattle.lt_language.specs.declared.Bad.TheVariants.{Long, Syntax}
+use Rattle.lt_language.specs.Commands.{Command, delete, get, stat, bad, is_space, has_space, is_word_key, keyed, valued, put_split, put_command, get_command, delete_command, begins_put, begins_get, begins_delete, is_stat, command_of}
 use Rattle.lt_language.specs.Valid.{IsWithinLimits}
 
 either : (b : Bool) (x y : Command) → IsWithinLimits x → IsWithinLimits y → IsWithinLimits (cond b x y)

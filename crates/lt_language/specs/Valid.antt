@@ -1,8 +1,7 @@
 -- What the keys and values of commands keep to.
-use Rattle.std.specs.Prelude.{List, IsTrue}
-use Rattle.lt_terms.specs.Items.{is_valid}
+use Rattle.std.specs.Prelude.{IsTrue}
+use Rattle.lt_terms.specs.Items.{is_valid, put_of, delete_of}
 use Rattle.lt_language.specs.Commands.{Command, put, delete, get}
-use Rattle.lt_language.specs.Machine.{put_of, delete_of}
 
 -- a write is a valid item, and a get asks for a key that an item can have
 abbrev pub IsWithinLimits : Command → Type 0

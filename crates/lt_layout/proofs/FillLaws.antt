@@ -2,8 +2,7 @@
 use Rattle.std.proofs.Common.{◌≡◌, ℕ, ◌+◌, ◌-◌, ◌≤◌, sym, ap, ◌∙◌, List, ◌++◌, length, take, drop, arith}
 use Rattle.std.proofs.lemmas.List.{take_at, length-append, drop-replicate}
 use Rattle.std.proofs.Math.Seq.{drop-append-add}
-use Rattle.lt_terms.specs.Bytes.{zeros, block_of}
-use Rattle.lt_page.specs.Page.{filled}
+use Rattle.lt_terms.specs.Bytes.{zeros, block_of, filled}
 
 pub drop-zeros : (m n : ℕ) → drop m (zeros n) ≡ zeros (n - m)
 unfolding zeros

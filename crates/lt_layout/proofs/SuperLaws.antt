@@ -1,8 +1,8 @@
 -- The superblock of a valid geometry is read as this geometry, and no other block is.
-use Rattle.std.proofs.Common.{◌≡◌, ℕ, zero, suc, ◌<◌, ◌≤◌, refl, sym, ap, subst, ◌∙◌, List, [], ◌∷◌, ◌++◌, length, take, drop, Bool, true, false, ◌&&◌, Option, Some, None, IsTrue, arith, get_or, nat_le}
+use Rattle.std.proofs.Common.{◌≡◌, ℕ, ◌≤◌, refl, sym, ap, subst, ◌∙◌, List, [], ◌∷◌, ◌++◌, length, take, drop, true, ◌&&◌, Option, Some, None, IsTrue, arith, get_or, nat_le}
 use Rattle.std.specs.Prelude.{codes, ◌==◌, if◌then◌else◌}
 use Rattle.std.specs.Int.{w16, from_be_bytes}
-use Rattle.std.proofs.lemmas.Bool.{leb-true, eqb-true}
+use Rattle.std.proofs.lemmas.Bool.{leb-true, eqb-true, and_parts}
 use Rattle.std.proofs.lemmas.List.{take-append-drop, length-drop}
 use Rattle.std.proofs.lemmas.Nat.{from_be_bytes-to_be_bytes_2, be_bytes_2}
 use Rattle.std.proofs.lemmas.Option.{cond_some}
@@ -11,23 +11,14 @@ use Rattle.std.proofs.Math.Seq.{drop-cons}
 use Rattle.lt_terms.specs.Bytes.{IsBlock, u16, u16_at, zeros, all_zero, same_bytes}
 use Rattle.lt_format.specs.declared.geometry.Geometry.{Geometry}
 use Rattle.lt_format.specs.Layout.{is_geometry, superblock, geometry_of}
-
-pub all_zero-zeros : (n : ℕ) → all_zero (zeros n) ≡ true
-unfolding zeros
-all_zero-zeros zero = refl
-all_zero-zeros (suc n) = all_zero-zeros n
-
-both : (a b : Bool) → (a && b) ≡ true → (a ≡ true) × (b ≡ true)
-both true true h = (refl, refl)
-both true false h = (refl, h)
-both false true h = (h, refl)
-both false false h = (h, h)
+use Rattle.lt_terms.proofs.SpellingLaws.{all_zero-zeros}
+use Rattle.lt_terms.proofs.ItemLaws.{two_bytes}
 
 zeros_from_all : (bytes : List ℕ) → all_zero bytes ≡ true → bytes ≡ zeros (length bytes)
 unfolding zeros
 zeros_from_all [] h = refl
 zeros_from_all (b ∷ bytes) h =
-    let parts = both (b == 0) (all_zero bytes) h in
+    let parts = and_parts (b == 0) (all_zero bytes) h in
     ap (λ x. x ∷ bytes) (eqb-true b 0 parts.0) ∙ ap (λ xs. 0 ∷ xs) (zeros_from_all bytes parts.1)
 
 -- what is read of a block, once its numbers are read
@@ -35,7 +26,7 @@ abbrev read_as : List ℕ → Geometry → Option Geometry
 read_as block g = if same_bytes (take 8 block) (codes "LSMTRIE1") && is_geometry g && all_zero (drop 11 block) then Some g else None
 
 few_slots : (g : Geometry) → IsTrue (is_geometry g) → g.slots ≤ 512
-few_slots g valid = leb-true _ _ (both (nat_le 2 g.levels && nat_le g.levels 5 && nat_le 1 g.slots) (nat_le g.slots 512) valid).1
+few_slots g valid = leb-true _ _ (and_parts (nat_le 2 g.levels && nat_le g.levels 5 && nat_le 1 g.slots) (nat_le g.slots 512) valid).1
 
 pub geometry_of-superblock : (g : Geometry) → IsTrue (is_geometry g) → geometry_of (superblock g) ≡ Some g
 unfolding geometry_of
@@ -50,11 +41,6 @@ front : (block : List ℕ) → 11 ≤ length block → block ≡ take 8 block ++
 front block long =
     sym (take-append-drop 8 block) ∙ ap (λ xs. take 8 block ++ xs) (drop-cons block 8 0 (omega arith) ∙ ap (λ xs. get_or block 8 0 ∷ xs) (drop-cons block 9 0 (omega arith) ∙ ap (λ xs. get_or block 9 0 ∷ xs) (drop-cons block 10 0 (omega arith))))
 
-two_bytes : (h m : ℕ) → h < 256 → m < 256 → (i : ℕ) → get_or (h ∷ m ∷ []) i 0 < 256
-two_bytes h m high low zero = high
-two_bytes h m high low (suc zero) = low
-two_bytes h m high low (suc (suc i)) = omega arith
-
 -- the spelling of the number that is read of a block
 slots_again : (block : List ℕ) → IsBlock block → u16 (u16_at block 9) ≡ get_or block 9 0 ∷ get_or block 10 0 ∷ []
 slots_again block is =
@@ -68,8 +54,8 @@ unfolding geometry_of
 superblock_from_geometry_of block g is read =
     let long = is.len in
     let found = cond_some _ _ g read in
-    let parts = both _ (all_zero (drop 11 block)) found.0 in
-    let tests = both (same_bytes (take 8 block) (codes "LSMTRIE1")) _ parts.0 in
+    let parts = and_parts _ (all_zero (drop 11 block)) found.0 in
+    let tests = and_parts (same_bytes (take 8 block) (codes "LSMTRIE1")) _ parts.0 in
     let magic : take 8 block ≡ codes "LSMTRIE1" = (bytes_eq-Decides (take 8 block) (codes "LSMTRIE1")).0 tests.0 in
     let rest : drop 11 block ≡ zeros 4085 = zeros_from_all (drop 11 block) parts.1 ∙ ap zeros (omega (arith, length-drop 11 block)) in
     let whole : block ≡ superblock (record { levels = get_or block 8 0; slots = u16_at block 9 }) =

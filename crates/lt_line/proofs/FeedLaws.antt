@@ -1,5 +1,5 @@
 -- The first line feed of a piece.
-use Rattle.std.proofs.Common.{◌≡◌, ℕ, ◌+◌, ◌≤◌, refl, ap, ◌∙◌, List, [], ◌∷◌, ◌++◌, length, take, Bool, true, false, cond, Some, None, arith}
+use Rattle.std.proofs.Common.{◌≡◌, ℕ, ◌+◌, ◌≤◌, ap, ◌∙◌, List, [], ◌∷◌, ◌++◌, length, take, Some, None, arith}
 use Rattle.std.specs.Prelude.{◌==◌}
 use Rattle.std.specs.List.{position, position_or_len}
 use Rattle.std.specs.Bool.{IsFalse}
@@ -9,15 +9,12 @@ use Rattle.std.proofs.lemmas.List.Folds.{list_any_none}
 use Rattle.std.proofs.lemmas.List.Sums.{fails_before_first}
 use Rattle.std.proofs.lemmas.List.Quantifiers.{position-Some}
 use Rattle.lt_language.specs.Lines.{line_feed, has_line_feed}
-
-none_is_less : (b : Bool) (n : ℕ) → cond b (Some n) None ≡ None → b ≡ false
-none_is_less true n e = cc
-none_is_less false n e = refl
+use Rattle.lt_terms.proofs.ItemLaws.{guard_none}
 
 -- there is none
 pub unbroken_where_none : (piece : List ℕ) → position (λ b. b == line_feed) piece ≡ None → IsFalse (has_line_feed piece)
 unbroken_where_none piece none =
-    let past : length piece ≤ position_or_len (λ b. b == line_feed) piece = ltb-false _ _ (none_is_less _ _ none) in
+    let past : length piece ≤ position_or_len (λ b. b == line_feed) piece = ltb-false _ _ (guard_none _ _ none) in
     list_any_none (λ b. b == line_feed) piece (λ k d lt. fails_before_first (λ b. b == line_feed) piece k d (omega arith))
 
 -- before the first there is none

@@ -3,12 +3,11 @@ use Rattle.std.proofs.Common.{◌≡◌, ℕ, ◌+◌, ◌≤◌, ap, subst, ◌
 use Rattle.lt_terms.specs.Bytes.{Image}
 use Rattle.lt_device.specs.Image.{SameOutside}
 use Rattle.lt_device.specs.State.{State, IsFit, synced}
-use Rattle.lt_device.specs.Moments.{MayLeave}
-use Rattle.lt_device.proofs.Steps.{sync_only}
+use Rattle.lt_device.specs.Moments.{MayLeave, ShowsSameOutside}
+use Rattle.lt_device.proofs.Steps.{sync_only, same_some}
 use Rattle.lt_format.specs.Layout.{area_block, edit_gate, edit_slots, gate_page, is_open}
-use Rattle.lt_manifest.specs.Moments.{EditsClosed, ShowsSameOutside}
+use Rattle.lt_manifest.specs.Moments.{EditsClosed}
 use Rattle.lt_manifest.specs.Written.{AreWritten, ComesFrom, HasArea, InEdits, page_of, page_count}
-use Rattle.lt_manifest.proofs.WriteLaws.{same_some}
 
 -- the snapshot's blocks stay while the edit gates are closed
 pub area-whole : (area : ℕ) (bytes : List ℕ) (mid new : Option Image) → length bytes ≤ 1249280 → AreWritten (λ k. area_block area + k) (page_of bytes) (page_count bytes) mid → ComesFrom (InEdits area) mid new

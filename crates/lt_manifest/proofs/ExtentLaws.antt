@@ -1,20 +1,17 @@
 -- Extent numbers that are read one after another.
-use Rattle.std.proofs.Common.{◌≡◌, ℕ, zero, suc, ◌+◌, ◌-◌, ◌<◌, ◌≤◌, refl, sym, ap, ◌∙◌, Bool, true, false, not, ◌&&◌, ◌||◌, List, [], ◌∷◌, ◌++◌, Result, Ok, Err, arith, append-nil, append_assoc}
+use Rattle.std.proofs.Common.{◌≡◌, ℕ, suc, ◌+◌, ◌-◌, ◌<◌, ◌≤◌, refl, sym, ap, ◌∙◌, Bool, true, false, not, ◌&&◌, ◌||◌, List, [], ◌∷◌, ◌++◌, Result, Ok, Err, arith, append-nil, append_assoc}
 use Rattle.std.specs.Prelude.{◌==◌, nat_lt}
 use Rattle.std.specs.Int.{w32}
 use Rattle.std.proofs.lemmas.List.Folds.{list_any-append}
-use Rattle.lt_tables.specs.Filter.{is_in}
-use Rattle.lt_format.specs.Snapshot.{field, number_in, extents_at, ◌>>=◌}
-use Rattle.lt_manifest.specs.Marks.{AreMarks}
+use Rattle.lt_terms.specs.Numbers.{is_in}
+use Rattle.lt_format.specs.Snapshot.{field, extents_at, ◌>>=◌}
+use Rattle.lt_node.specs.Marks.{AreMarks}
+use Rattle.lt_format.proofs.AlikeLaws.{SameNumbers, extents_at-same}
 
 -- these numbers, and what was read behind them
 abbrev pub put_front : List ℕ → Result (List ℕ × ℕ) ℕ → Result (List ℕ × ℕ) ℕ
 put_front xs (Ok (ys, at)) = Ok (xs ++ ys, at)
 put_front xs (Err e) = Err e
-
--- two lists of the same numbers
-abbrev pub SameNumbers : List ℕ → List ℕ → Type 0
-SameNumbers xs ys = (z : ℕ) → is_in z xs ≡ is_in z ys
 
 moved_bits : (a b c : Bool) → ((a || (b || false)) || c) ≡ (b || (a || c))
 moved_bits true true c = refl
@@ -27,22 +24,6 @@ pub same-moved : (x : ℕ) (xs before : List ℕ) → SameNumbers (x ∷ xs ++ b
 same-moved x xs before z =
     sym (list_any-append (λ q. q == z) (xs ++ x ∷ []) before ∙ ap (λ b. b || is_in z before) (list_any-append (λ q. q == z) xs (x ∷ []))
     ∙ moved_bits (is_in z xs) (x == z) (is_in z before) ∙ ap (λ b. (x == z) || b) (sym (list_any-append (λ q. q == z) xs before)))
-
-pub same-more : (x : ℕ) (xs ys : List ℕ) → SameNumbers xs ys → SameNumbers (x ∷ xs) (x ∷ ys)
-same-more x xs ys same z = ap (λ b. (x == z) || b) (same z)
-
-pub bind-alike : {A B : Type 0} (r : Result A ℕ) (f g : A → Result B ℕ) → ((a : A) → f a ≡ g a) → (r >>= f) ≡ (r >>= g)
-bind-alike (Ok a) f g each = each a
-bind-alike (Err e) f g each = refl
-
--- reading asks of the numbers before only which they are
-pub extents_at-alike : (bytes : ℕ → ℕ) (limit extents n : ℕ) (before others : List ℕ) (at : ℕ) → SameNumbers before others → extents_at bytes limit extents n before at ≡ extents_at bytes limit extents n others at
-unfolding extents_at
-extents_at-alike bytes limit extents zero before others at same = refl
-extents_at-alike bytes limit extents (suc n) before others at same =
-    rw (same (number_in w32 bytes at))
-    (bind-alike (field bytes limit w32 (λ y. nat_lt y extents && not (is_in (number_in w32 bytes at) others)) at) _ _
-    (λ (x : ℕ × ℕ). ap (λ (r : Result (List ℕ × ℕ) ℕ). r >>= (λ (rest : List ℕ × ℕ). Ok (x.0 ∷ rest.0, rest.1))) (extents_at-alike bytes limit extents n (x.0 ∷ before) (x.0 ∷ others) x.1 (same-more x.0 before others same))))
 
 put_front-one : (xs : List ℕ) (x : ℕ) (r : Result (List ℕ × ℕ) ℕ) → put_front xs (r >>= (λ (rest : List ℕ × ℕ). Ok (x ∷ rest.0, rest.1))) ≡ put_front (xs ++ x ∷ []) r
 put_front-one xs x (Ok (ys, at)) = ap (λ (zs : List ℕ). Ok (zs, at)) (sym (append_assoc xs (x ∷ []) ys))
@@ -69,7 +50,7 @@ module _ (bytes : ℕ → ℕ) (limit extents count at : ℕ) (before : List ℕ
   unfolding extents_at
   part-step n place x next list read =
       rw read (put_front-one list x (extents_at bytes limit extents n (x ∷ list ++ before) next)
-      ∙ ap (put_front (list ++ x ∷ [])) (extents_at-alike bytes limit extents n (x ∷ list ++ before) ((list ++ x ∷ []) ++ before) next (same-moved x list before)))
+      ∙ ap (put_front (list ++ x ∷ [])) (extents_at-same bytes bytes limit (λ i within. refl) extents n (x ∷ list ++ before) ((list ++ x ∷ []) ++ before) next (same-moved x list before)))
 
   pub part-more : (mid new : List Bool) (done place x next : ℕ) (list : List ℕ) → done < count → IsPartRead mid done list place
       → field bytes limit w32 (λ y. nat_lt y extents && not (is_in y (list ++ before))) place ≡ Ok (x, next) → AreMarks new (x ∷ list ++ before) → IsPartRead new (done + 1) (list ++ x ∷ []) next

@@ -1,15 +1,16 @@
 -- Extent numbers that were read are new.
-use Rattle.std.proofs.Common.{◌≡◌, ℕ, zero, suc, ◌+◌, ◌≤◌, refl, sym, ap, subst, ◌∙◌, Bool, true, false, not, cond, ◌&&◌, ◌||◌, List, [], ◌∷◌, ◌++◌, Result, Ok, Err, IsTrue, arith}
-use Rattle.std.specs.Prelude.{nat_le, nat_lt, ◌==◌}
-use Rattle.std.specs.Int.{Width, w32, byte_len}
+use Rattle.std.proofs.Common.{◌≡◌, ℕ, zero, suc, ◌≤◌, refl, sym, ap, subst, ◌∙◌, Bool, true, false, not, ◌&&◌, ◌||◌, List, [], ◌∷◌, ◌++◌, Ok, IsTrue, arith}
+use Rattle.std.specs.Prelude.{nat_lt, ◌==◌}
+use Rattle.std.specs.Int.{w32}
 use Rattle.std.specs.List.{list_all}
-use Rattle.std.proofs.lemmas.Bool.{and_parts, and_from, true≢false, not-true, not_from_false, ne_eqb, eqb-false}
+use Rattle.std.proofs.lemmas.Bool.{and_parts, and_from, not-true, not_from_false, ne_eqb, eqb-false, or_parts}
 use Rattle.std.proofs.lemmas.List.Folds.{list_all-append}
-use Rattle.lt_tables.specs.Filter.{is_in}
+use Rattle.lt_terms.specs.Numbers.{is_in}
 use Rattle.lt_format.specs.Trie.{Trie, named, all_distinct, all_below}
 use Rattle.lt_format.specs.Changes.{are_new}
-use Rattle.lt_format.specs.Snapshot.{field, number_in, extents_at, ◌>>=◌}
+use Rattle.lt_format.specs.Snapshot.{field, extents_at}
 use Rattle.lt_format.proofs.Numbers.{times-append, times-below, below-times, distinct-joined, below-joined}
+use Rattle.lt_format.proofs.ReadLaws.{bind_ok, ok_same, field_ok}
 
 abbrev pub none_in : List ℕ → List ℕ → Bool
 none_in before xs = list_all (λ x. not (is_in x before)) xs
@@ -23,51 +24,27 @@ pub record AreNew (extents : ℕ) (before xs : List ℕ) : Type 0 where
 flip : (x y : ℕ) → (x == y) ≡ false → (y == x) ≡ false
 flip x y other = ne_eqb y x (λ e. eqb-false x y other (sym e))
 
-parts_false : (a b : Bool) → (a || b) ≡ false → (a ≡ false) × (b ≡ false)
-parts_false true b h = absurd (true≢false h)
-parts_false false b h = (refl, h)
-
 -- numbers that are not among x and those before
 apart-parts : (x : ℕ) (before xs : List ℕ) → none_in (x ∷ before) xs ≡ true → (none_in before xs ≡ true) × (is_in x xs ≡ false)
 apart-parts x before [] h = (refl, refl)
 apart-parts x before (y ∷ xs) h =
     let both = and_parts (not (is_in y (x ∷ before))) (none_in (x ∷ before) xs) h in
-    let head = parts_false (x == y) (is_in y before) (not-true _ both.0) in
+    let head = or_parts (x == y) (is_in y before) (not-true _ both.0) in
     let rest = apart-parts x before xs both.1 in
     let other : (y == x) ≡ false = flip x y head.0 in
     (and_from (not (is_in y before)) (none_in before xs) (not_from_false _ head.1) rest.0, rw (other, rest.1) refl)
 
-pub bind_is : {A B : Type 0} (r : Result A ℕ) (f : A → Result B ℕ) (b : B) → (r >>= f) ≡ Ok b → (a : A) × (r ≡ Ok a) × (f a ≡ Ok b)
-bind_is (Ok a) f b h = (a, refl, h)
-bind_is {A} {B} (Err e) f b h = absurd (no_ok h)
-  where
-    no_ok : ◌≡◌ {A = Result B ℕ} (Err e) (Ok b) → ⊥
-    no_ok h = cc
-
-pub same_ok : {A : Type 0} (x y : A) → ◌≡◌ {A = Result A ℕ} (Ok x) (Ok y) → x ≡ y
-same_ok x y h = cc
-
--- a field that stands
-pub field-passes : (w : Width) (bytes : ℕ → ℕ) (limit : ℕ) (stands : ℕ → Bool) (at : ℕ) (x : ℕ × ℕ) → field bytes limit w stands at ≡ Ok x → stands x.0 ≡ true
-field-passes w bytes limit stands at x h = by_test (nat_le (at + byte_len w) limit) (stands (number_in w bytes at)) refl h
-  where
-    by_test : (a b : Bool) → stands (number_in w bytes at) ≡ b → cond {A = Result (ℕ × ℕ) ℕ} (a && b) (Ok (number_in w bytes at, at + byte_len w)) (Err at) ≡ Ok x → stands x.0 ≡ true
-    by_test true true e h = ap stands (sym (ap (λ (p : ℕ × ℕ). p.0) (same_ok (number_in w bytes at, at + byte_len w) x h))) ∙ e
-    by_test true false e h = absurd cc
-    by_test false true e h = absurd cc
-    by_test false false e h = absurd cc
-
 pub extents_at-new : (bytes : ℕ → ℕ) (limit extents n : ℕ) (before : List ℕ) (at : ℕ) (xs : List ℕ) (next : ℕ) → extents_at bytes limit extents n before at ≡ Ok (xs, next) → AreNew extents before xs
 unfolding extents_at
 extents_at-new bytes limit extents zero before at xs next h =
-    let none : [] ≡ xs = ap (λ (p : List ℕ × ℕ). p.0) (same_ok ([], at) (xs, next) h) in
+    let none : [] ≡ xs = ap (λ (p : List ℕ × ℕ). p.0) (ok_same ([], at) (xs, next) h) in
     subst (AreNew extents before) none (record { distinct = refl; below = refl; apart = refl })
 extents_at-new bytes limit extents (suc n) before at xs next h =
-    let first = bind_is (field bytes limit w32 (λ x. nat_lt x extents && not (is_in x before)) at) _ (xs, next) h in
-    let others = bind_is (extents_at bytes limit extents n (first.0.0 ∷ before) first.0.1) _ _ first.2 in
-    let whole : first.0.0 ∷ others.0.0 ≡ xs = ap (λ (p : List ℕ × ℕ). p.0) (same_ok (first.0.0 ∷ others.0.0, others.0.1) (xs, next) others.2) in
+    let first = bind_ok (field bytes limit w32 (λ x. nat_lt x extents && not (is_in x before)) at) _ (xs, next) h in
+    let others = bind_ok (extents_at bytes limit extents n (first.0.0 ∷ before) first.0.1) _ _ first.2 in
+    let whole : first.0.0 ∷ others.0.0 ≡ xs = ap (λ (p : List ℕ × ℕ). p.0) (ok_same (first.0.0 ∷ others.0.0, others.0.1) (xs, next) others.2) in
     let new = extents_at-new bytes limit extents n (first.0.0 ∷ before) first.0.1 others.0.0 others.0.1 others.1 in
-    let passes = and_parts (nat_lt first.0.0 extents) (not (is_in first.0.0 before)) (field-passes w32 bytes limit (λ x. nat_lt x extents && not (is_in x before)) at first.0 first.1) in
+    let passes = and_parts (nat_lt first.0.0 extents) (not (is_in first.0.0 before)) (field_ok bytes limit w32 (λ x. nat_lt x extents && not (is_in x before)) at first.0 first.1) in
     let apart = apart-parts first.0.0 before others.0.0 new.apart in
     subst (AreNew extents before) whole (record {
       distinct = and_from (not (is_in first.0.0 others.0.0)) (all_distinct others.0.0) (not_from_false _ apart.1) new.distinct;
@@ -90,7 +67,7 @@ none_in-parts (x ∷ xs) before ys h =
     more z zs [] absent h = refl
     more z zs (w ∷ ws) absent h =
         let both = and_parts (not (is_in w zs)) (none_in zs ws) h in
-        let head = parts_false (w == z) (is_in z ws) absent in
+        let head = or_parts (w == z) (is_in z ws) absent in
         let other : (z == w) ≡ false = flip w z head.0 in
         and_from (not ((z == w) || is_in w zs)) (none_in (z ∷ zs) ws) (rw other both.0) (more z zs ws head.1 both.1)
 

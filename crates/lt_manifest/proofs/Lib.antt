@@ -1,4 +1,3 @@
-pub mod AlikeLaws
 pub mod AreaLaws
 pub mod CommitLaws
 pub mod ExtentLaws

@@ -1,5 +1,5 @@
 -- Nodes that are read one after another.
-use Rattle.std.proofs.Common.{◌≡◌, ℕ, suc, ◌+◌, ◌-◌, ◌<◌, ◌≤◌, refl, sym, ap, subst, ◌∙◌, Bool, true, false, not, cond, ◌&&◌, ◌||◌, List, [], ◌∷◌, ◌++◌, length, Option, Some, None, Result, Ok, Err, IsTrue, arith, append-nil, append_assoc}
+use Rattle.std.proofs.Common.{◌≡◌, ℕ, suc, ◌+◌, ◌-◌, ◌<◌, ◌≤◌, refl, sym, ap, subst, ◌∙◌, Bool, true, false, not, cond, ◌&&◌, List, [], ◌∷◌, ◌++◌, length, Option, Some, None, Result, Ok, Err, IsTrue, arith, append-nil, append_assoc}
 use Rattle.std.specs.Prelude.{◌==◌, if◌then◌else◌}
 use Rattle.std.specs.declared.cmp.Ordering.TheVariants.{Less, Greater}
 use Rattle.std.specs.Ordering.{is_lt, ordering_reverse}
@@ -8,7 +8,7 @@ use Rattle.std.specs.List.{list_all}
 use Rattle.std.proofs.lemmas.Bool.{and_parts, and_from, ne_eqb}
 use Rattle.std.proofs.lemmas.Grind.{flat_map-append}
 use Rattle.std.proofs.lemmas.List.Folds.{list_any-append, list_all-append}
-use Rattle.lt_tables.specs.Filter.{is_in}
+use Rattle.lt_terms.specs.Numbers.{is_in}
 use Rattle.lt_format.specs.declared.node_id.NodeId.{NodeId}
 use Rattle.lt_format.specs.Trie.{Node, Trie, node_cmp, with_node, named, node_extents, is_node, is_shaped, is_last_level, groups_for, all_distinct, all_below, IsTrie}
 use Rattle.lt_format.specs.Changes.{are_new}
@@ -17,9 +17,10 @@ use Rattle.lt_format.proofs.Numbers.{times-below, below-times}
 use Rattle.lt_format.proofs.TrieLaws.{node_total, is_less}
 use Rattle.lt_format.proofs.KeepLaws.{set-trie}
 use Rattle.lt_format.proofs.ShapeLaws.{inner-shaped, last-shaped}
-use Rattle.lt_manifest.specs.Marks.{AreMarks}
-use Rattle.lt_manifest.proofs.ExtentLaws.{SameNumbers}
-use Rattle.lt_manifest.proofs.AlikeLaws.{nodes_read-same}
+use Rattle.lt_node.specs.Marks.{AreMarks}
+use Rattle.lt_format.proofs.AlikeLaws.{nodes_read-same}
+use Rattle.std.proofs.Math.Bool.{or_comm}
+use Rattle.lt_format.proofs.AlikeLaws.{SameNumbers}
 
 -- ---- shapes
 
@@ -71,21 +72,11 @@ put_nodes-one : (es : Trie) (e : NodeId × Node) (r : Result (Trie × ℕ) ℕ) 
 put_nodes-one es e (Ok (rest, at)) = ap (λ (all : Trie). Ok (all, at)) (sym (append_assoc es (e ∷ []) rest))
 put_nodes-one es e (Err at) = refl
 
-put_nodes-none : (r : Result (Trie × ℕ) ℕ) → r ≡ put_nodes [] r
-put_nodes-none (Ok (rest, at)) = refl
-put_nodes-none (Err e) = refl
-
 named-push : (trie : Trie) (id : NodeId) (n : Node) → named (trie ++ (id, n) ∷ []) ≡ named trie ++ node_extents n
 named-push trie id n = flat_map-append (λ (e : NodeId × Node). node_extents e.1) trie ((id, n) ∷ []) ∙ ap (λ xs. named trie ++ xs) (append-nil (node_extents n))
 
-turned : (a b : Bool) → (a || b) ≡ (b || a)
-turned true true = refl
-turned true false = refl
-turned false true = refl
-turned false false = refl
-
 pub same-turned : (xs ys : List ℕ) → SameNumbers (xs ++ ys) (ys ++ xs)
-same-turned xs ys z = list_any-append (λ q. q == z) xs ys ∙ turned (is_in z xs) (is_in z ys) ∙ sym (list_any-append (λ q. q == z) ys xs)
+same-turned xs ys z = list_any-append (λ q. q == z) xs ys ∙ or_comm (is_in z xs) (is_in z ys) ∙ sym (list_any-append (λ q. q == z) ys xs)
 
 pub are_new-wider : (trie : Trie) (xs : List ℕ) (extents : ℕ) → extents ≤ 65536 → IsTrue (are_new extents trie xs) → IsTrue (are_new 65536 trie xs)
 are_new-wider trie xs extents few new =
@@ -100,16 +91,6 @@ module _ (bytes : ℕ → ℕ) (limit levels extents count : ℕ) where
     pub goes_on : nodes_read bytes limit levels extents count None [] 40 ≡ put_nodes trie (nodes_read bytes limit levels extents (count - done) last (named trie) place)
     pub trie_is : IsTrie levels extents trie
     pub last_is : (id : NodeId) → follows last id ≡ true → all_before id trie ≡ true
-
-  pub nodes-none : (marks : List Bool) → AreMarks marks [] → IsTrieRead marks 0 [] None 40
-  nodes-none marks are =
-      let all : count ≡ count - 0 = omega arith in
-      record {
-        marks_are = are;
-        goes_on = put_nodes-none _ ∙ ap (λ k. put_nodes [] (nodes_read bytes limit levels extents k None [] 40)) all;
-        trie_is = record { rising = refl; nodes = refl; distinct = refl; below = refl };
-        last_is = λ id comes. refl;
-      }
 
   nodes-step : (n place next : ℕ) (trie : Trie) (last : Option NodeId) (id : NodeId) (node : Node) → node_read bytes limit levels extents last (named trie) place ≡ Ok ((id, node), next)
       → put_nodes trie (nodes_read bytes limit levels extents (suc n) last (named trie) place) ≡ put_nodes (trie ++ (id, node) ∷ []) (nodes_read bytes limit levels extents n (Some id) (named (trie ++ (id, node) ∷ [])) next)

@@ -2,8 +2,7 @@
 use Rattle.std.proofs.Common.{◌≡◌, ⊎_elim, ℕ, ◌+◌, ◌-◌, ◌*◌, ◌<◌, ◌≤◌, refl, sym, ap, ◌∙◌, min, List, [], length, take, drop, arith}
 use Rattle.std.proofs.lemmas.Bool.{cases_lt}
 use Rattle.std.proofs.lemmas.List.{take_all, length-take, length-drop}
-use Rattle.lt_terms.specs.Bytes.{block_of, zero_block}
-use Rattle.lt_page.specs.Page.{filled}
+use Rattle.lt_terms.specs.Bytes.{block_of, zero_block, filled}
 use Rattle.lt_layout.proofs.FillLaws.{filled-block_of}
 use Rattle.lt_manifest.specs.Written.{page_of}
 

@@ -1,15 +1,15 @@
 -- The bytes of an area, as they are read block by block.
-use Rattle.std.proofs.Common.{◌≡◌, ⊎_elim, ℕ, ◌+◌, ◌*◌, ◌/◌, ◌%◌, ◌<◌, ◌≤◌, refl, sym, ap, ◌∙◌, List, [], ◌++◌, length, take, true, false, cond, ◌&&◌, None, Result, Ok, Err, arith, length-append}
+use Rattle.std.proofs.Common.{◌≡◌, ⊎_elim, ℕ, ◌+◌, ◌*◌, ◌/◌, ◌%◌, ◌<◌, ◌≤◌, refl, sym, ap, ◌∙◌, List, [], ◌++◌, length, take, true, cond, ◌&&◌, None, Result, Ok, Err, arith, length-append}
 use Rattle.std.specs.Prelude.{get_or, slice_index, nat_le, ◌==◌}
-use Rattle.std.proofs.lemmas.Bool.{cases_lt, eq-eqb, ne_eqb, and_parts, leb-true}
+use Rattle.std.proofs.lemmas.Bool.{cases_lt, and_parts, leb-true}
 use Rattle.std.proofs.lemmas.List.{get_or-take, get_or_append_left, get_or-append-add}
 use Rattle.lt_terms.specs.Bytes.{Image, block_at}
 use Rattle.lt_format.specs.declared.geometry.Geometry.{Geometry}
 use Rattle.lt_format.specs.Layout.{area_block, blocks_needed}
 use Rattle.lt_format.specs.Trie.{Trie}
-use Rattle.lt_format.specs.Snapshot.{Manifest, Front, front_read, nodes_read, snapshot_read, snapshot_in, as_block, area_byte, total_offset, extents_stand, ◌>>=◌}
+use Rattle.lt_format.specs.Snapshot.{Manifest, Front, front_read, snapshot_read, snapshot_in, as_block, area_byte, total_offset, extents_stand, ◌>>=◌}
 use Rattle.lt_manifest.specs.Area.{AreBytesFrom, after_front}
-use Rattle.lt_manifest.proofs.AlikeLaws.{front_read-same, nodes_read-same}
+use Rattle.lt_format.proofs.AlikeLaws.{front_read-same, nodes_read-same}
 
 -- the header is read of the first block
 pub header-read : (g : Geometry) (blocks : ℕ) (image : Image) (a : ℕ) (page bytes : List ℕ) → page ≡ block_at image (area_block a) → bytes ≡ take 40 page → front_read g blocks (area_byte image a) ≡ front_read g blocks (slice_index bytes)
@@ -21,16 +21,6 @@ header-read g blocks image a page bytes read is = front_read-same g blocks (area
         let rest : i % 4096 ≡ i = omega arith in
         ap (λ k. get_or (block_at image k) (i % 4096) 0) here ∙ ap (λ k. get_or (block_at image (area_block a)) k 0) rest
         ∙ ap (λ (p : List ℕ). get_or p i 0) (sym read) ∙ sym (get_or-take 40 page i 0 within) ∙ ap (λ (p : List ℕ). get_or p i 0) (sym is)
-
-pub bytes-one : (image : Image) (first : ℕ) (page bytes : List ℕ) → length page ≡ 4096 → page ≡ block_at image first → bytes ≡ page → AreBytesFrom image first bytes
-bytes-one image first page bytes len read is = record { each = each }
-  where
-    each : (n : ℕ) → n < length bytes → get_or bytes n 0 ≡ get_or (block_at image (first + n / 4096)) (n % 4096) 0
-    each n within =
-        let size : length bytes ≡ 4096 = ap length is ∙ len in
-        let here : first ≡ first + n / 4096 = omega arith in
-        let rest : n ≡ n % 4096 = omega arith in
-        ap (λ (p : List ℕ). get_or p n 0) (is ∙ read) ∙ ap (λ k. get_or (block_at image k) n 0) here ∙ ap (λ k. get_or (block_at image (first + n / 4096)) k 0) rest
 
 pub bytes-more : (image : Image) (first count : ℕ) (page bytes : List ℕ) → length page ≡ 4096 → length bytes ≡ 4096 * count → page ≡ block_at image (first + count) → AreBytesFrom image first bytes → AreBytesFrom image first (bytes ++ page)
 bytes-more image first count page bytes len whole read so_far = record { each = each }
@@ -62,16 +52,6 @@ snapshot-read g blocks bytes front read = rw read refl
 pub snapshot-front_fault : (g : Geometry) (blocks : ℕ) (bytes : ℕ → ℕ) (e : ℕ) → front_read g blocks bytes ≡ Err e → snapshot_read g blocks bytes ≡ Err e
 unfolding snapshot_read
 snapshot-front_fault g blocks bytes e read = rw read refl
-
--- the end of the nodes is that of the snapshot, or not
-pub after_front-ok : (g : Geometry) (bytes : ℕ → ℕ) (front : Front) (trie : Trie) (place : ℕ) → nodes_read bytes front.total g.levels front.header.extents front.nodes None [] 40 ≡ Ok (trie, place) → place ≡ front.total → after_front g bytes front ≡ Ok (record { header = front.header; trie = trie })
-after_front-ok g bytes front trie place read ends = let same : (place == front.total) ≡ true = eq-eqb place front.total ends in rw (read, same) refl
-
-pub after_front-short : (g : Geometry) (bytes : ℕ → ℕ) (front : Front) (trie : Trie) (place : ℕ) → nodes_read bytes front.total g.levels front.header.extents front.nodes None [] 40 ≡ Ok (trie, place) → (place ≡ front.total → ⊥) → after_front g bytes front ≡ Err 20
-after_front-short g bytes front trie place read other = let differ : (place == front.total) ≡ false = ne_eqb place front.total other in rw (read, differ) refl
-
-pub after_front-fault : (g : Geometry) (bytes : ℕ → ℕ) (front : Front) (e : ℕ) → nodes_read bytes front.total g.levels front.header.extents front.nodes None [] 40 ≡ Err e → after_front g bytes front ≡ Err e
-after_front-fault g bytes front e read = rw read refl
 
 -- ---- the whole snapshot
 

@@ -1,17 +1,13 @@
 -- Blocks that are written one after another.
-use Rattle.std.proofs.Common.{◌≡◌, ◌≢◌, ◌⊎◌, ⊎_elim, ℕ, ◌+◌, ◌<◌, ◌≤◌, sym, ap, subst, ◌∙◌, List, Option, Some, arith}
+use Rattle.std.proofs.Common.{◌≡◌, ◌≢◌, ◌⊎◌, ⊎_elim, ℕ, ◌+◌, ◌<◌, ◌≤◌, sym, ap, subst, ◌∙◌, List, Option, arith}
 use Rattle.std.proofs.lemmas.Bool.{cases_lt}
 use Rattle.lt_terms.specs.Bytes.{Image, block_at}
 use Rattle.lt_device.specs.Image.{SameOutside}
 use Rattle.lt_device.specs.State.{State, IsFit, Wrote, written}
-use Rattle.lt_device.proofs.Images.{block_at-set_other, same_outside_refl, same_outside_joins, same_outside_widens}
-use Rattle.lt_device.proofs.Steps.{written_is, written_shown, wrote_others}
-use Rattle.lt_manifest.specs.Moments.{ShowsSameOutside}
+use Rattle.lt_device.proofs.Images.{block_at-set_other, same_outside_joins, same_outside_widens}
+use Rattle.lt_device.proofs.Steps.{written_is, written_shown, wrote_others, same_some}
 use Rattle.lt_format.specs.Naming.{InManifest}
 use Rattle.lt_manifest.specs.Written.{AreWritten, ComesFrom, InArea, InSelected}
-
-pub written-none : (place : ℕ → ℕ) (page : ℕ → List ℕ) (shown : Option Image) → AreWritten place page 0 shown
-written-none place page shown = record { each = λ image told k below. absurd (omega arith) }
 
 -- one block more
 pub written-more : (place : ℕ → ℕ) (page : ℕ → List ℕ) (count n b : ℕ) (old new : State) (bytes : List ℕ) → b ≡ place count → ((k : ℕ) → k < count → place k ≢ place count) → b < n → IsFit n old → new ≡ written old b bytes → bytes ≡ page count
@@ -29,34 +25,9 @@ written-more place page count n b old new bytes at apart below fit is bytes_are 
       (cases_lt k count);
 }
 
-pub shows-none : (inside : ℕ → Type 0) (shown : Option Image) → ShowsSameOutside inside shown shown
-shows-none inside shown = record { each = λ before told. (before, told, same_outside_refl inside before) }
-
--- two calls, one after another
-pub shows-joins : (inside part other : ℕ → Type 0) (old mid new : Option Image) → ShowsSameOutside part old mid → ShowsSameOutside other mid new → ((k : ℕ) → part k → inside k) → ((k : ℕ) → other k → inside k) → ShowsSameOutside inside old new
-shows-joins inside part other old mid new first second first_in second_in = record {
-  each = λ before told.
-      let one = first.each before told in
-      let two = second.each one.0 one.1 in
-      (two.0, two.1, same_outside_widens (λ k. part k ⊎ other k) inside before two.0 (λ k either. ⊎_elim (first_in k) (second_in k) either) (same_outside_joins part other before one.0 two.0 one.2 two.2));
-}
-
-pub shows-widens : (inside more : ℕ → Type 0) (old new : Option Image) → ((k : ℕ) → inside k → more k) → ShowsSameOutside inside old new → ShowsSameOutside more old new
-shows-widens inside more old new wider shows = shows-joins more inside inside old new new shows (shows-none inside new) wider wider
-
 -- the selector and the areas are blocks of the manifest
 pub selected-manifest : (area : ℕ) → area < 2 → (k : ℕ) → InSelected area k → InManifest k
 selected-manifest area small k either = ⊎_elim (λ (at : k ≡ 1). (omega arith, omega arith)) (λ (inside : InArea area k). (omega (arith, inside.0), omega (arith, inside.1, small))) either
-
-pub shows-writes : (inside : ℕ → Type 0) (n b : ℕ) (old : Option Image) (mid new : State) → Wrote n b mid new → inside b → ShowsSameOutside inside old mid.shown → ShowsSameOutside inside old new.shown
-shows-writes inside n b old mid new wrote in_it so_far =
-    shows-joins inside inside (λ k. k ≡ b) old mid.shown new.shown so_far (record { each = λ before told. wrote_others n b mid new before wrote told }) (λ k i. i) (λ k at. subst inside (sym at) in_it)
-
-pub same_some : {A : Type 0} (o : Option A) (x y : A) → o ≡ Some x → o ≡ Some y → x ≡ y
-same_some o x y one two = cc
-
-pub comes-none : (inside : ℕ → Type 0) (shown : Option Image) → ComesFrom inside shown shown
-comes-none inside shown = record { each = λ image told. (image, told, same_outside_refl inside image) }
 
 pub comes-writes : (inside : ℕ → Type 0) (n b : ℕ) (old : Option Image) (mid new : State) → Wrote n b mid new → inside b → ComesFrom inside old mid.shown → ComesFrom inside old new.shown
 comes-writes inside n b old mid new wrote in_it so_far = record {

@@ -1,6 +1,5 @@
 pub mod Moments
 pub mod Area
-pub mod Marks
 pub mod Next
 pub mod Opened
 pub mod Shape

@@ -1,5 +1,5 @@
 -- What the images of a commit name, at each moment and at its end.
-use Rattle.std.specs.Prelude.{◌≡◌, ◌⊎◌, ℕ, ◌<◌, false, Option, Some, Ok}
+use Rattle.std.specs.Prelude.{◌≡◌, ◌⊎◌, ℕ, ◌<◌, false, Ok}
 use Rattle.lt_terms.specs.Bytes.{Image, block_at}
 use Rattle.lt_device.specs.Image.{SameOutside}
 use Rattle.lt_format.specs.Layout.{is_open, edit_gate, edit_slots}
@@ -22,7 +22,3 @@ pub record HasOldOrNew (old : Named) (new : Manifest) (shown left : Image) : Typ
 -- all edit gates of a manifest area are closed
 pub record EditsClosed (area : ℕ) (image : Image) : Type 0 where
   pub gates : (i : ℕ) → i < edit_slots → is_open (block_at image (edit_gate area i)) ≡ false
-
--- where a device tells what it reads as, it still tells it, and the same outside these blocks
-pub record ShowsSameOutside (inside : ℕ → Type 0) (old new : Option Image) : Type 0 where
-  pub each : (before : Image) → old ≡ Some before → (image : Image) × (new ≡ Some image) × SameOutside inside before image

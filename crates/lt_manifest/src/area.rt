@@ -6,9 +6,8 @@ ghost use Rattle.lt_terms.specs.Bytes.{Image, block_at, block_of};
 ghost use Rattle.lt_terms.specs.Causes.{HasCause};
 ghost use Rattle.lt_device.specs.Image.{SameOutside};
 ghost use Rattle.lt_device.specs.State.{IsFit};
-ghost use Rattle.lt_device.specs.Moments.{MayLeave, ConfinedTo, UnsyncedIn};
+ghost use Rattle.lt_device.specs.Moments.{MayLeave, ConfinedTo, UnsyncedIn, ShowsSameOutside};
 ghost use Rattle.lt_format.specs.Layout.{area_block, edit_gate, edit_slots, gate_page};
-ghost use Rattle.lt_manifest.specs.Moments.{ShowsSameOutside};
 ghost use Rattle.lt_manifest.specs.Written.{AreWritten, ComesFrom, HasArea, InArea, InEdits, page_of, page_count};
 
 use lt_device::Device;

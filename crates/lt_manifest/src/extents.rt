@@ -2,9 +2,9 @@
 
 ghost use Rattle.std.specs.Prelude.{◌≡◌, ℕ, ◌++◌, ◌∷◌, ◌&&◌, ◌<◌, ◌≤◌, List, not, nat_lt, length, Ok, Err, IfOk, IfErr, IsErrOf, slice_index};
 ghost use Rattle.std.specs.Int.{w32};
-ghost use Rattle.lt_tables.specs.Filter.{is_in};
+ghost use Rattle.lt_terms.specs.Numbers.{is_in};
 ghost use Rattle.lt_format.specs.Snapshot.{field, extents_at};
-ghost use Rattle.lt_manifest.specs.Marks.{AreMarks};
+ghost use Rattle.lt_node.specs.Marks.{AreMarks};
 
 use crate::fault::ReadFault;
 use crate::fields::number_u32;

@@ -5,7 +5,7 @@ ghost use Rattle.lt_format.specs.Trie as tries;
 ghost use Rattle.lt_format.specs.Trie.{is_node, is_shaped, named, node_extents, IsTrie};
 ghost use Rattle.lt_format.specs.Changes.{are_new};
 ghost use Rattle.lt_format.specs.Snapshot.{node_read, nodes_read, extents_of, follows};
-ghost use Rattle.lt_manifest.specs.Marks.{AreMarks};
+ghost use Rattle.lt_node.specs.Marks.{AreMarks};
 ghost use Rattle.lt_manifest.specs.Shape.{entry_of};
 
 use crate::extents::read_extents;

@@ -3,11 +3,11 @@
 ghost use Rattle.std.specs.Prelude.{◌≡◌, ◌-◌, ◌*◌, ◌<◌, ◌≤◌, Some, [], ◌∷◌, IsTrue, OnOk, length};
 ghost use Rattle.lt_terms.specs.Bytes.{Image, block_at, block_of};
 ghost use Rattle.lt_terms.specs.Causes.{HasCause};
-ghost use Rattle.lt_device.specs.Moments.{MayLeave, Leaves, ConfinedTo, UnsyncedIn};
+ghost use Rattle.lt_device.specs.Moments.{MayLeave, Leaves, ConfinedTo, UnsyncedIn, ShowsSameOutside};
 ghost use Rattle.lt_format.specs.Layout.{is_geometry};
 ghost use Rattle.lt_format.specs.Snapshot.{Manifest};
 ghost use Rattle.lt_format.specs.Naming.{Named};
-ghost use Rattle.lt_manifest.specs.Moments.{Names, HasNew, HasOldOrNew, ShowsSameOutside};
+ghost use Rattle.lt_manifest.specs.Moments.{Names, HasNew, HasOldOrNew};
 ghost use Rattle.lt_manifest.specs.Next.{IsNext};
 ghost use Rattle.lt_manifest.specs.Written.{HasSelected, InSelected};
 

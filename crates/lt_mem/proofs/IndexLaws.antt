@@ -9,11 +9,11 @@ use Rattle.std.proofs.lemmas.Bool.Decides.{eqb_tells}
 use Rattle.std.proofs.lemmas.List.Sums.{sum_by-append, sum_by-cons}
 use Rattle.lt_terms.specs.Items.{Item, is_key, is_valid, value_limit, item_cost, total_cost, spelling, items_of}
 use Rattle.lt_bucket.specs.Reading.{items_in}
-use Rattle.lt_bucket.proofs.BucketPages.{length-spellings}
 use Rattle.lt_bucket.proofs.ItemsOf.{items_of-reads}
-use Rattle.lt_bucket.proofs.Growing.{items-more, spellings-more}
+use Rattle.lt_bucket.proofs.Growing.{items-more}
 use Rattle.lt_mem.specs.declared.table.Place.{Place}
 use Rattle.lt_mem.specs.Index.{bucket_of, last_from, last_in, place_behind, places_from, IsIndex}
+use Rattle.lt_terms.proofs.SpellingLaws.{length-spellings, spellings-more}
 
 -- the last item of a bucket, behind one more
 last_from-more : (n found b : ℕ) (items : List Item) (item : Item) → last_from n found b (items ++ item ∷ []) ≡ cond (bucket_of item.key == b) (n + length items + 1) (last_from n found b items)

@@ -13,12 +13,12 @@ use Rattle.lt_terms.specs.Bytes.{same_bytes}
 use Rattle.lt_terms.specs.Items.{Item, is_valid, total_cost, spelling, spellings, front_item}
 use Rattle.lt_terms.proofs.ItemLaws.{front_item-spelling}
 use Rattle.lt_tables.specs.Merge.{newest_of, versions_of}
-use Rattle.lt_bucket.proofs.BucketPages.{length-spellings}
 use Rattle.lt_terms.specs.declared.Kind.TheVariants.{Put}
 use Rattle.lt_bucket.proofs.ItemsOf.{items_of-reads}
 use Rattle.lt_mem.specs.declared.table.Place.{Place}
 use Rattle.lt_mem.specs.Index.{bucket_of, last_from, last_in, place_behind, IsIndex}
 use Rattle.lt_mem.proofs.IndexLaws.{last_in-more, last_in-bound, place_at, head_is}
+use Rattle.lt_terms.proofs.SpellingLaws.{length-spellings}
 
 last_or-more : {A : Type 0} (o : Option A) (xs : List A) (x : A) → last_or o (xs ++ x ∷ []) ≡ Some x
 last_or-more o [] x = refl

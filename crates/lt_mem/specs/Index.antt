@@ -1,21 +1,12 @@
 -- Items in one buffer, and their places in it, linked where their keys share 16 bits of their hash.
 use Rattle.std.specs.Prelude.{◌≡◌, ℕ, ◌+◌, ◌%◌, ◌<◌, ◌≤◌, List, [], ◌∷◌, ◌++◌, length, Some, ◌==◌, if◌then◌else◌, slice_index}
 use Rattle.lt_terms.specs.Hashes.{key_suffix}
-use Rattle.lt_terms.specs.declared.Kind.TheVariants.{Put, Delete}
 use Rattle.lt_terms.specs.Items.{Item, total_cost, spellings, items_of}
 use Rattle.lt_mem.specs.declared.table.Place.{Place}
 
 -- what all items in the table may cost
 abbrev pub table_room : ℕ
 table_room = 204092
-
--- the item that a put puts in
-abbrev pub put_of : List ℕ → List ℕ → Item
-put_of key value = record { kind = Put; key = key; value = value }
-
--- the item that a delete puts in
-abbrev pub delete_of : List ℕ → Item
-delete_of key = record { kind = Delete; key = key; value = [] }
 
 -- the 16 bits of a key
 abbrev pub bucket_of : List ℕ → ℕ

@@ -3,10 +3,10 @@
 ghost use Rattle.std.specs.Prelude.{◌≡◌, ◌+◌, ◌<◌, ◌≤◌, ◌∷◌, [], ◌++◌, IfOk, IfSome, IsTrue, vec_len, vec_capacity};
 ghost use Rattle.std.specs.List.{list_all};
 ghost use Rattle.std.specs.Option.{option_map};
-ghost use Rattle.lt_terms.specs.Items.{is_key, is_valid, item_cost, spelling, total_cost};
+ghost use Rattle.lt_terms.specs.Items.{is_key, is_valid, item_cost, spelling, total_cost, put_of, delete_of};
 ghost use Rattle.lt_item.specs.Views.{item_of};
 ghost use Rattle.lt_tables.specs.Merge.{newest, newest_of};
-ghost use Rattle.lt_mem.specs.Index.{bucket_of, delete_of, put_of, table_room};
+ghost use Rattle.lt_mem.specs.Index.{bucket_of, table_room};
 
 use crate::ranking::newest_items;
 use lt_bucket::{Item, Items};

@@ -1,27 +1,23 @@
 -- What a change makes of each node.
-use Rattle.std.proofs.Common.{◌≡◌, ℕ, zero, suc, ◌+◌, ◌*◌, ◌<◌, ◌≤◌, refl, sym, ap, ◌∙◌, Bool, true, false, cond, ◌&&◌, ◌||◌, List, [], ◌∷◌, length, get_or, drop, arith, length-append}
+use Rattle.std.proofs.Common.{◌≡◌, ℕ, zero, suc, ◌+◌, ◌*◌, ◌<◌, ◌≤◌, refl, sym, ap, ◌∙◌, true, false, cond, ◌&&◌, List, [], ◌∷◌, length, get_or, drop, arith, length-append}
 use Rattle.std.specs.Prelude.{◌==◌, nat_le}
 use Rattle.std.specs.List.{fold, list_any, All}
-use Rattle.std.specs.Ordering.{is_eq}
-use Rattle.std.specs.Cmp.{tied_itself}
-use Rattle.std.proofs.lemmas.Bool.{and_parts, true≢false, eqb-true, ne_eqb, false_from_ne_true}
+use Rattle.std.proofs.lemmas.Bool.{and_parts, eqb-true, ne_eqb, false_from_ne_true, or_parts}
 use Rattle.lt_format.specs.declared.node_id.NodeId.{NodeId}
 use Rattle.lt_format.specs.Trie.{Node, Trie, root, empty_node, same_node, node_at, with_node, is_last_level, groups_for}
 use Rattle.lt_format.specs.Changes.{Change, flush, deal, rewrite, ChildChange, new_extents, are_new, fits, shape_fits, children_fit, appended, child_after, after_child, without_oldest, after_change}
-use Rattle.lt_format.proofs.TrieLaws.{node_total, same_node-same, node_at-with_node, if_any}
+use Rattle.lt_format.proofs.TrieLaws.{same_node-same, node_at-with_node, if_any, if_any-tables, same_node-itself}
 use Rattle.lt_format.proofs.ChildLaws.{children_fit-first, child-elsewhere}
 use Rattle.lt_node.specs.Changing.{sets}
-use Rattle.lt_node.proofs.ApplyLaws.{higher}
-
-same_itself : (id : NodeId) → same_node id id ≡ true
-same_itself id = ap is_eq (tied_itself node_total id)
+use Rattle.std.proofs.lemmas.List.{nil_from_length}
+use Rattle.lt_format.proofs.KeepLaws.{higher}
 
 some_tables : (n : Node) → 1 ≤ length n.tables → if_any n ≡ n
 some_tables n h = ap (λ b. cond b empty_node n) (ne_eqb (length n.tables) 0 (λ e. omega arith))
 
 -- the node that is set, and each other
 pub set_here : (trie : Trie) (id : NodeId) (node : Node) → node_at (with_node trie id node) id ≡ if_any node
-set_here trie id node = node_at-with_node trie id node id ∙ ap (λ b. cond b (if_any node) (node_at trie id)) (same_itself id)
+set_here trie id node = node_at-with_node trie id node id ∙ ap (λ b. cond b (if_any node) (node_at trie id)) (same_node-itself id)
 
 pub set_elsewhere : (trie : Trie) (id : NodeId) (node : Node) (q : NodeId) → same_node q id ≡ false → node_at (with_node trie id node) q ≡ node_at trie q
 set_elsewhere trie id node q other = node_at-with_node trie id node q ∙ ap (λ b. cond b (if_any node) (node_at trie q)) other
@@ -34,10 +30,6 @@ flush_root trie tables some = set_here trie root (appended (node_at trie root) t
 
 -- ---- a rewriting
 
-no_numbers : (xs : List ℕ) → length xs ≡ 0 → xs ≡ []
-no_numbers [] h = refl
-no_numbers (x ∷ xs) h = absurd (omega arith)
-
 pub rewritten_node : (levels : ℕ) (trie : Trie) (node : NodeId) (tables groups : List ℕ) → fits levels trie (rewrite node tables groups) ≡ true → node_at (after_change trie (rewrite node tables groups)) node ≡ record { base = length tables; tables = tables; groups = groups }
 unfolding fits after_change
 rewritten_node levels trie node tables groups fit =
@@ -46,22 +38,15 @@ rewritten_node levels trie node tables groups fit =
     set_here trie node (record { base = length tables; tables = tables; groups = groups }) ∙ by_tables tables (eqb-true (length groups) (groups_for (length tables)) counted)
   where
     by_tables : (ts : List ℕ) → length groups ≡ groups_for (length ts) → if_any (record { base = length ts; tables = ts; groups = groups }) ≡ record { base = length ts; tables = ts; groups = groups }
-    by_tables [] none = λ i. record { base = 0; tables = []; groups = sym (no_numbers groups none) i }
+    by_tables [] none = λ i. record { base = 0; tables = []; groups = sym (nil_from_length groups none) i }
     by_tables (t ∷ ts) some = some_tables (record { base = length (t ∷ ts); tables = t ∷ ts; groups = groups }) (omega arith)
 
 -- ---- a deal
 
-any_tables : (n : Node) → (if_any n).tables ≡ n.tables
-any_tables n = by_tables n.tables refl
-  where
-    by_tables : (ts : List ℕ) → n.tables ≡ ts → (cond (length ts == 0) empty_node n).tables ≡ n.tables
-    by_tables [] is = sym is
-    by_tables (t ∷ ts) is = ap (λ b. (cond b empty_node n).tables) (ne_eqb (suc (length ts)) 0 (λ e. omega arith))
-
 pub dealt_node : (trie : Trie) (node : NodeId) (dropped : ℕ) (children : List ChildChange) → (node_at (after_change trie (deal node dropped children)) node).tables ≡ drop dropped (node_at trie node).tables
 unfolding after_change
 dealt_node trie node dropped children =
-    ap (λ (n : Node). n.tables) (set_here (fold after_child trie children) node (without_oldest (node_at trie node) dropped)) ∙ any_tables (without_oldest (node_at trie node) dropped)
+    ap (λ (n : Node). n.tables) (set_here (fold after_child trie children) node (without_oldest (node_at trie node) dropped)) ∙ if_any-tables (without_oldest (node_at trie node) dropped)
 
 -- children with lower numbers are no more touched
 later_children : (levels : ℕ) (trie now : Trie) (node : NodeId) (from : ℕ) (cs : List ChildChange) (q : NodeId) → q.number < from → children_fit levels trie node from cs ≡ true → node_at (fold after_child now cs) q ≡ node_at now q
@@ -107,10 +92,6 @@ dealt_children levels trie node dropped children fit k d within =
     other_level q id deeper = false_from_ne_true (same_node q id) (λ e. let same : q.level ≡ id.level = ap (λ (n : NodeId). n.level) (same_node-same q id e) in omega arith)
 
 -- ---- each other node
-
-or_parts : (a b : Bool) → (a || b) ≡ false → (a ≡ false) × (b ≡ false)
-or_parts true b h = absurd (true≢false h)
-or_parts false b h = (refl, h)
 
 unset_children : (now : Trie) (cs : List ChildChange) (q : NodeId) → list_any (λ (c : ChildChange). same_node q c.node) cs ≡ false → node_at (fold after_child now cs) q ≡ node_at now q
 unset_children now [] q h = refl

@@ -1,7 +1,7 @@
 -- A change sets nodes, one after another.
 use Rattle.std.proofs.Common.{◌≡◌, ℕ, ◌+◌, ◌-◌, ◌*◌, ◌≤◌, refl, sym, ap, subst, ◌∙◌, true, List, [], ◌∷◌, ◌++◌, map, length, arith}
 use Rattle.std.specs.List.{fold, list_all}
-use Rattle.lt_tables.specs.Filter.{is_in}
+use Rattle.lt_terms.specs.Numbers.{is_in}
 use Rattle.std.specs.Prelude.{not}
 use Rattle.std.proofs.lemmas.Bool.{and_parts}
 use Rattle.std.proofs.lemmas.List.Sums.{fold-append}
@@ -9,13 +9,10 @@ use Rattle.lt_format.specs.declared.node_id.NodeId.{NodeId}
 use Rattle.lt_format.specs.Trie.{Node, Trie, node_at, with_node, is_node, all_distinct, all_below, named, is_shaped, table_total, IsTrie}
 use Rattle.lt_format.specs.Changes.{Change, flush, deal, rewrite, ChildChange, new_extents, are_new, fits, shape_fits, children_fit, child_after, after_child, without_oldest, after_change}
 use Rattle.lt_format.proofs.ChildLaws.{children_fit-first, child-elsewhere}
-use Rattle.lt_format.proofs.KeepLaws.{after_change-trie, set-trie}
+use Rattle.lt_format.proofs.KeepLaws.{after_change-trie, set-trie, higher}
 use Rattle.lt_node.specs.View.{TrieView, IsView, IsKept}
 use Rattle.lt_node.specs.Changing.{with_entry, dealt_entry, changed}
 use Rattle.lt_node.proofs.TotalLaws.{with_node-total, total_few, pile_few, new_few}
-
-pub higher : (q id : NodeId) → id.number + 1 ≤ q.number → q ≡ id → ⊥
-higher q id above same = let number : q.number ≡ id.number = ap (λ (n : NodeId). n.number) same in omega arith
 
 dealt_sets : (levels : ℕ) (trie now : Trie) (node : NodeId) (from : ℕ) (cs : List ChildChange) → children_fit levels trie node from cs ≡ true → ((q : NodeId) → from ≤ q.number → node_at now q ≡ node_at trie q) → fold after_child now cs ≡ fold with_entry now (map (dealt_entry trie) cs)
 dealt_sets levels trie now node from [] fit same = refl

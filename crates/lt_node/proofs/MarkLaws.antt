@@ -1,42 +1,32 @@
 -- Marks of numbers, and numbers that are new beside marked ones.
-use Rattle.std.proofs.Common.{◌≡◌, ◌≢◌, ℕ, zero, suc, ◌+◌, ◌<◌, ◌≤◌, refl, sym, ap, subst, ◌∙◌, Bool, true, false, not, ◌&&◌, ◌||◌, List, [], ◌∷◌, ◌++◌, length, get_or, set, take, drop, replicate, map, append_assoc, append-nil, IsTrue, arith, ⊎_elim}
+use Rattle.std.proofs.Common.{◌≡◌, ◌≢◌, ℕ, zero, suc, ◌+◌, ◌<◌, refl, sym, ap, subst, ◌∙◌, Bool, true, false, not, ◌&&◌, ◌||◌, List, [], ◌∷◌, ◌++◌, length, get_or, set, take, drop, replicate, map, append_assoc, append-nil, IsTrue, arith, ⊎_elim}
 use Rattle.std.specs.Prelude.{◌==◌, nat_lt}
 use Rattle.std.specs.List.{list_all}
-use Rattle.std.proofs.lemmas.Bool.{and_parts, and_from, true≢false, cases_eq, eq-eqb, ne_eqb, ltb-true, lt-ltb, le-ltb}
+use Rattle.std.proofs.lemmas.Bool.{and_parts, and_from, true≢false, cases_eq, eq-eqb, ne_eqb, ltb-true, lt-ltb, or_right}
 use Rattle.std.proofs.lemmas.List.{get_or-set_same, get_or-set_other, get_or-replicate, take_more, take-append-drop, length-set, length-replicate, map-append}
-use Rattle.std.proofs.lemmas.List.Folds.{list_any-append, list_all-append}
+use Rattle.std.proofs.lemmas.List.Folds.{list_all-append}
 use Rattle.std.proofs.lemmas.Grind.{flat_map-append}
-use Rattle.std.proofs.Math.Bool.{and_assoc}
-use Rattle.lt_tables.specs.Filter.{is_in}
+use Rattle.std.proofs.Math.Bool.{and_assoc, and-true}
+use Rattle.lt_terms.specs.Numbers.{is_in}
 use Rattle.lt_format.specs.declared.node_id.NodeId.{NodeId}
 use Rattle.lt_format.specs.Trie.{Node, Trie, node_extents, named, all_distinct, all_below}
 use Rattle.lt_format.specs.Changes.{ChildChange, are_new}
 use Rattle.lt_node.specs.declared.change.ChildChange.{ChildChange as Child}
 use Rattle.lt_node.specs.Changing.{child_of}
 use Rattle.lt_node.specs.Marks.{AreMarks, are_fresh, TellsNew, given_extents}
-
-is_in-append : (x : ℕ) (xs ys : List ℕ) → is_in x (xs ++ ys) ≡ (is_in x xs || is_in x ys)
-is_in-append x xs ys = list_any-append (λ y. y == x) xs ys
-
-or_more : (a b : Bool) → b ≡ true → (a || b) ≡ true
-or_more true b h = refl
-or_more false b h = h
+use Rattle.lt_tables.proofs.FilterLaws.{in_append, eqb_sym}
 
 or_none : (a b : Bool) → b ≡ false → (a || b) ≡ a
 or_none true b h = refl
 or_none false b h = h
 
-and_none : (a : Bool) → (a && true) ≡ a
-and_none true = refl
-and_none false = refl
-
 -- ---- one number is marked
 
 seen_here : (x : ℕ) (seen : List ℕ) → is_in x (seen ++ x ∷ []) ≡ true
-seen_here x seen = is_in-append x seen (x ∷ []) ∙ or_more (is_in x seen) (is_in x (x ∷ [])) (ap (λ b. b || false) (eq-eqb x x refl))
+seen_here x seen = in_append x seen (x ∷ []) ∙ or_right (is_in x seen) (is_in x (x ∷ [])) (ap (λ b. b || false) (eq-eqb x x refl))
 
 seen_else : (x y : ℕ) (seen : List ℕ) → x ≢ y → is_in x (seen ++ y ∷ []) ≡ is_in x seen
-seen_else x y seen apart = is_in-append x seen (y ∷ []) ∙ or_none (is_in x seen) (is_in x (y ∷ [])) (ap (λ b. b || false) (ne_eqb y x (λ e. apart (sym e))))
+seen_else x y seen apart = in_append x seen (y ∷ []) ∙ or_none (is_in x seen) (is_in x (y ∷ [])) (ap (λ b. b || false) (ne_eqb y x (λ e. apart (sym e))))
 
 pub marks_one : (flags : List Bool) (seen : List ℕ) (number : ℕ) → AreMarks flags seen → number < length flags → AreMarks (set flags number true) (seen ++ number ∷ [])
 marks_one flags seen number are within x below = ⊎_elim
@@ -58,7 +48,7 @@ fresh-append limit seen (x ∷ xs) ys =
     ∙ sym (and_assoc (nat_lt x limit && not (is_in x seen)) (are_fresh limit (seen ++ x ∷ []) xs) (are_fresh limit (seen ++ x ∷ xs) ys))
 
 pub tells_one : (limit : ℕ) (seen : List ℕ) (x : ℕ) (answer : Bool) (new : List Bool) → answer ≡ (nat_lt x limit && not (is_in x seen)) → (IsTrue answer → AreMarks new (seen ++ x ∷ [])) → TellsNew limit seen (x ∷ []) answer new
-tells_one limit seen x answer new told marks = record { told = told ∙ sym (and_none (nat_lt x limit && not (is_in x seen))); marks = marks }
+tells_one limit seen x answer new told marks = record { told = told ∙ sym (and-true (nat_lt x limit && not (is_in x seen))); marks = marks }
 
 -- two lists, one after the other
 pub tells_both : (limit : ℕ) (seen xs ys : List ℕ) (mid new : List Bool) (answer : Bool) → TellsNew limit seen xs true mid → TellsNew limit (seen ++ xs) ys answer new → TellsNew limit seen (xs ++ ys) answer new
@@ -107,18 +97,12 @@ both_not : (a b : Bool) → not (a || b) ≡ (not a && not b)
 both_not true b = refl
 both_not false b = refl
 
-eqb_turn : (x y : ℕ) → (x == y) ≡ (y == x)
-eqb_turn x y = ⊎_elim
-    (λ (same : x ≡ y). eq-eqb x y same ∙ sym (eq-eqb y x (sym same)))
-    (λ (other : x ≢ y). ne_eqb x y other ∙ sym (ne_eqb y x (λ e. other (sym e))))
-    (cases_eq x y)
-
 -- none of the numbers is x, and none was seen
 apart_from : (x : ℕ) (seen xs : List ℕ) → list_all (λ y. not (is_in y (seen ++ x ∷ []))) xs ≡ (not (is_in x xs) && list_all (λ y. not (is_in y seen)) xs)
 apart_from x seen [] = refl
 apart_from x seen (y ∷ ys) =
     let here : not (is_in y (seen ++ x ∷ [])) ≡ (not (is_in y seen) && not (y == x)) =
-    ap not (is_in-append y seen (x ∷ []) ∙ ap (λ b. is_in y seen || b) (or_none (x == y) false refl ∙ eqb_turn x y)) ∙ both_not (is_in y seen) (y == x) in
+    ap not (in_append y seen (x ∷ []) ∙ ap (λ b. is_in y seen || b) (or_none (x == y) false refl ∙ eqb_sym x y)) ∙ both_not (is_in y seen) (y == x) in
     ap (λ b. b && list_all (λ z. not (is_in z (seen ++ x ∷ []))) ys) here
     ∙ ap (λ b. (not (is_in y seen) && not (y == x)) && b) (apart_from x seen ys)
     ∙ swap_heads (not (is_in y seen)) (not (y == x)) (not (is_in x ys)) (list_all (λ z. not (is_in z seen)) ys)
@@ -165,23 +149,6 @@ tells_marked flags number within free seen are =
     tells_one (length flags) seen number true (set flags number true)
     (sym (and_from (nat_lt number (length flags)) (not (is_in number seen)) (lt-ltb number (length flags) within) (ap not absent)))
     (λ yes. marks_one flags seen number are within)
-
-and_last : (a b : Bool) → b ≡ false → (a && b) ≡ false
-and_last true b h = h
-and_last false b h = refl
-
-pub tells_taken : (flags : List Bool) (number : ℕ) → number < length flags → get_or flags number false ≡ true → (seen : List ℕ) → AreMarks flags seen → TellsNew (length flags) seen (number ∷ []) false flags
-tells_taken flags number within taken seen are =
-    let present : is_in number seen ≡ true = sym (are number within) ∙ taken in
-    tells_one (length flags) seen number false flags
-    (sym (and_last (nat_lt number (length flags)) (not (is_in number seen)) (ap not present)))
-    (λ yes. absurd (true≢false (sym yes)))
-
-pub tells_past : (flags : List Bool) (number : ℕ) → length flags ≤ number → (seen : List ℕ) → AreMarks flags seen → TellsNew (length flags) seen (number ∷ []) false flags
-tells_past flags number past seen are =
-    tells_one (length flags) seen number false flags
-    (sym (ap (λ b. b && not (is_in number seen)) (le-ltb number (length flags) past)))
-    (λ yes. absurd (true≢false (sym yes)))
 
 -- ---- loops over numbers
 

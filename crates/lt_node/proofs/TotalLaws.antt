@@ -1,7 +1,7 @@
 -- How many tables a trie has.
 use Rattle.std.proofs.Common.{◌≡◌, ℕ, suc, ◌+◌, ◌<◌, ◌≤◌, refl, sym, ap, subst, ◌∙◌, Bool, true, false, not, cond, Option, Some, None, List, [], ◌∷◌, ◌++◌, length, get_or, drop, drop-cons, add-one, arith, length-append}
 use Rattle.std.specs.Prelude.{◌==◌, ◌&&◌}
-use Rattle.lt_tables.specs.Filter.{is_in}
+use Rattle.lt_terms.specs.Numbers.{is_in}
 use Rattle.std.specs.Option.{unwrap_or}
 use Rattle.std.specs.declared.cmp.Ordering.{Ordering}
 use Rattle.std.specs.declared.cmp.Ordering.TheVariants.{Less, Equal, Greater}
@@ -65,7 +65,7 @@ with_node-total trie id node h = by_tables (length node.tables == 0) refl
 
 -- ---- a trie has few tables
 
-total_named : (es : Trie) → table_total es ≤ length (named es)
+pub total_named : (es : Trie) → table_total es ≤ length (named es)
 total_named [] = omega arith
 total_named (e ∷ es) = omega (arith, total-cons e es, total_named es, length-append (node_extents e.1) (named es), length-append e.1.tables e.1.groups)
 

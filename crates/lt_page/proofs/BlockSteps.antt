@@ -7,31 +7,24 @@ use Prim.Native.Nat.{ℕ}
 use mathlib.Core.List.{List, [], ◌∷◌, ◌++◌}
 use seplogic.Ra.Ura.{Ura}
 use base.Fraction.{full_share}
-use base.Logic.{ent, sep, ex, guard, fst∗, never}
+use base.Logic.{ent, sep, fst∗, never}
 use base.Fml.{ftrue, fat, froom}
 use mir.Val.{Val, vptr, vstruct, of_list}
 use types.Logic.{Logic, sem}
-use types.Kit.{Goal, Step, step, Seq, Item, ‵, ◌⊛◌, some, ◌$◌, ◌∵◌, !, qed, by, move, keep, drop, use1, pick, split, show, check, rewrite, fsplit, fjoin, fpick, fpack, feq_l, feq_i, done}
+use types.Kit.{Goal, Step, step, Seq, Item, ‵, ◌⊛◌, some, ◌$◌, ◌∵◌, !, qed, by, move, keep, drop, use1, pick, split, rewrite, fsplit, fjoin, fpick, fpack, feq_l, feq_i}
 use denote.RattleType.{Valss}
-use denote.Laws.{Is, shows}
 use denote.Memory.{part_at}
 use denote.RawPtr.{Ptr, RawPtr, block_ptr, ptr_val, in_a_block, null_ptr}
-use denote.Steps.{peeks, nothing}
+use denote.Steps.{nothing}
 use denote.Struct.Struct.{within}
 use denote.Struct.Owning.{shape}
 use borrow.Table.OneValue.{part_out, part_in}
 use Rattle.core.proofs.alloc.Calls.{token, Fits, handle_tells}
 use Rattle.lt_page.specs.Block.{room_owns, block_owns}
-use Rattle.lt_page.proofs.BlockForm.{Types, Value, From, τ, τ_bare, lawful, Good, Block, owning, Vacant, vacant_owning, word}
+use Rattle.lt_page.proofs.BlockForm.{Types, Value, From, τ, τ_bare, Good, Block, owning, Vacant, vacant_owning, word}
 
 module _ (E : Types) {M : Type 1} {𝓤 : Ura M} (𝓛 : Logic 𝓤) (x : E.value.Denot) (b o : ℕ) where
   open 𝓛 use {H}
-
-  pub value_out : ent 𝓤 (sem 𝓛 (part_at (Value E) full_share x b o)) (ex 𝓤 (λ (v : Val). guard 𝓤 (Good E v) (sep 𝓤 (H.at full_share (τ E) b o v) (sem 𝓛 (E.value.own_val x (v ∷ []))))))
-  value_out = qed 𝓛 (‵ (part_at (Value E) full_share x b o) ∷ []) ∵
-      use1 𝓛 (some (λ (v : Val). ‵ (fat full_share (τ E) b o v) ⊛ ‵ (E.value.own_val x (v ∷ [])))) (part_out 𝓛 (Value E) refl full_share x b o) $ pick ! (λ v. split ! $ move ! (1 ∷ []) $
-      peeks ! (Value E) (Is (Value E)) (shows 𝓛 (Value E)) x (v ∷ []) (λ is.
-      show ! (λ (w : Val). guard 𝓤 (Good E w) (sep 𝓤 (H.at full_share (τ E) b o w) (sem 𝓛 (E.value.own_val x (w ∷ []))))) v $ check ! ((lawful E 𝓛).typed x (v ∷ []) is).0 $ move ! (1 ∷ 0 ∷ []) $ done !))
 
   pub value_in : (v : Val) → ent 𝓤 (sep 𝓤 (H.at full_share (τ E) b o v) (sem 𝓛 (E.value.own_val x (v ∷ [])))) (sem 𝓛 (part_at (Value E) full_share x b o))
   value_in v = part_in 𝓛 (Value E) refl full_share x b o v

@@ -4,10 +4,7 @@ use Rattle.std.specs.List.{All}
 use Rattle.std.proofs.lemmas.List.{length-replicate, get_or-replicate, ext_get_or}
 use Rattle.std.proofs.lemmas.List.Elements.{All-replicate}
 use Rattle.lt_terms.specs.Bytes.{IsBlock, AreBytes, zeros, zero_block}
-
-length-zeros : (n : ℕ) → length (zeros n) ≡ n
-unfolding zeros
-length-zeros n = length-replicate n 0
+use Rattle.lt_terms.proofs.SpellingLaws.{length-zeros}
 
 AreBytes-zeros : (n : ℕ) → AreBytes (zeros n)
 unfolding zeros

@@ -1,8 +1,7 @@
 //! A page of 4,096 bytes. All numbers in it are big-endian.
 
 ghost use Rattle.std.specs.Prelude.{◌≡◌, ◌+◌, ◌<◌, ◌≤◌, ◌↔◌, length, All, IfOk, IsTrue, slice_index, slice_set};
-ghost use Rattle.lt_terms.specs.Bytes.{IsBlock, zero_block, u16_at, u32_at};
-ghost use Rattle.lt_page.specs.Page.{filled};
+ghost use Rattle.lt_terms.specs.Bytes.{IsBlock, zero_block, u16_at, u32_at, filled};
 
 use super::block::{Block, Vacant};
 use super::errors::NoMemory;

@@ -1,15 +1,16 @@
 -- A loop that cuts lines off the front of what is left.
-use Rattle.std.proofs.Common.{◌≡◌, ℕ, zero, suc, ◌+◌, ◌<◌, ◌≤◌, refl, sym, ap, subst, ◌∙◌, List, [], ◌∷◌, ◌++◌, length, take, drop, true, false, ◌||◌, cond, Bool, Option, Some, None, arith, append_assoc, add-one, get_or}
+use Rattle.std.proofs.Common.{◌≡◌, ℕ, zero, suc, ◌+◌, ◌<◌, ◌≤◌, refl, sym, ap, subst, ◌∙◌, List, [], ◌∷◌, ◌++◌, length, take, drop, true, false, ◌||◌, Option, Some, None, arith, append_assoc, add-one, get_or}
 use Rattle.std.specs.Prelude.{◌==◌, nat_lt, position}
 use Rattle.std.specs.List.{position_or_len}
 use Rattle.std.specs.Bool.{IsFalse}
 use Rattle.std.proofs.lemmas.Bool.{eqb-true, ltb-true, ltb-false}
-use Rattle.std.proofs.lemmas.Option.{cond_some, none-some}
+use Rattle.std.proofs.lemmas.Option.{cond_some}
 use Rattle.std.proofs.lemmas.List.{take_all}
 use Rattle.std.proofs.lemmas.List.Folds.{list_any_more}
 use Rattle.std.proofs.lemmas.List.Sums.{fails_before_first, passes_at_first, split_at_first}
 use Rattle.lt_language.specs.Lines.{line_feed, has_line_feed, split_lines}
 use Rattle.lt_language.proofs.LineLaws.{split_lines-ended, split_lines-unbroken}
+use Rattle.lt_terms.proofs.ItemLaws.{guard_none}
 
 -- what stands in front of what is left is these lines, each with its line feed
 pub record SoFar (bytes : List ℕ) (lines : List (List ℕ)) (left : List ℕ) : Type 0 where
@@ -61,14 +62,10 @@ SoFar-more bytes lines left end s found =
       split = split_lines-ended s.front (take end left) cut.free ∙ ap (λ (p : List (List ℕ) × List ℕ). (p.0 ++ (p.1 ++ take end left) ∷ [], [])) s.split;
     }
 
-not_found : (b : Bool) (x : ℕ) → cond b (Some x) None ≡ None → b ≡ false
-not_found true x h = absurd (none-some x (sym h))
-not_found false x h = refl
-
 -- and no more: what is left is the rest
 pub SoFar-split : (bytes : List ℕ) (lines : List (List ℕ)) (left : List ℕ) → SoFar bytes lines left → feed_at left ≡ None → split_lines bytes ≡ (lines, left)
 SoFar-split bytes lines left s none =
-    let past : length left ≤ position_or_len (λ b. b == line_feed) left = ltb-false _ _ (not_found _ _ none) in
+    let past : length left ≤ position_or_len (λ b. b == line_feed) left = ltb-false _ _ (guard_none _ _ none) in
     let free : IsFalse (has_line_feed (take (length left) left)) = none_below left (length left) (omega arith) (λ k below. fails_before_first (λ b. b == line_feed) left k 0 (omega arith)) in
     ap split_lines s.whole ∙ split_lines-unbroken s.front left (subst (λ xs. IsFalse (has_line_feed xs)) (take_all (length left) left (omega arith)) free)
     ∙ ap (λ (p : List (List ℕ) × List ℕ). (p.0, p.1 ++ left)) s.split

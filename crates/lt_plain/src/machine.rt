@@ -2,8 +2,9 @@
 
 ghost use Rattle.std.specs.Prelude.{◌≡◌, ℕ, map, All, IfOk};
 ghost use Rattle.lt_language.specs.Replies as replies;
-ghost use Rattle.lt_language.specs.Machine.{State, nothing_yet, WriteStep, put_of, delete_of, Step, found};
+ghost use Rattle.lt_language.specs.Machine.{State, nothing_yet, WriteStep, Step, found};
 ghost use Rattle.lt_terms.specs.Maps.{value_at};
+ghost use Rattle.lt_terms.specs.Items.{put_of, delete_of};
 ghost use Rattle.lt_plain.specs.Views.{command_view, reply_view, state_of};
 ghost use Rattle.lt_plain.specs.Answers.{RunsTo, ReadsNothing};
 

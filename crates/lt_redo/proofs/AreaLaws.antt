@@ -1,13 +1,12 @@
 -- The log of one area, whatever is done to the other.
-use Rattle.std.proofs.Common.{◌≡◌, ℕ, zero, suc, ◌+◌, ◌<◌, ◌≤◌, refl, ap, ◌∙◌, cond, List, Option, Some, None, Result, arith}
+use Rattle.std.proofs.Common.{◌≡◌, ℕ, zero, suc, ◌<◌, ◌∙◌, List, arith}
 use Rattle.lt_terms.specs.Bytes.{Image, block_at}
 use Rattle.lt_terms.specs.Items.{Item}
 use Rattle.lt_device.specs.Image.{SameOutside}
 use Rattle.lt_device.specs.State.{State}
 use Rattle.lt_device.specs.Moments.{MayLeave, Leaves}
 use Rattle.lt_format.specs.declared.geometry.Geometry.{Geometry}
-use Rattle.lt_format.specs.Layout.{is_open, log_gate, log_content, first_open, closed_from}
-use Rattle.lt_format.specs.Log.{log_from, with_group, read_with, group_on}
+use Rattle.lt_format.specs.Layout.{log_gate, log_content}
 use Rattle.lt_format.proofs.LocalLaws.{log_from-same}
 use Rattle.lt_redo.specs.LogState.{LogState, other_area}
 use Rattle.lt_redo.specs.Slots.{HasLog, InLogArea}

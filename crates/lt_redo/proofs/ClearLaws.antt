@@ -15,9 +15,6 @@ use Rattle.lt_redo.proofs.LogLaws.{log_from-closed}
 pub record ClosedSoFar (g : Geometry) (b count : ℕ) (s : State) : Type 0 where
   pub gates : (image : Image) → s.shown ≡ Some image → (k : ℕ) → k < count → block_at image (log_gate g b k) ≡ gate_page false
 
-pub ClosedSoFar-none : (g : Geometry) (b : ℕ) (s : State) → ClosedSoFar g b 0 s
-ClosedSoFar-none g b s = record { gates = λ image shown k below. absurd (omega arith) }
-
 -- one gate more
 pub ClosedSoFar-more : (g : Geometry) (b count n : ℕ) (s t : State) → ClosedSoFar g b count s → Wrote n (log_gate g b count) s t → log_gate g b count < n → t ≡ written s (log_gate g b count) (gate_page false) → ClosedSoFar g b (count + 1) t
 ClosedSoFar-more g b count n s t so_far wrote in_range is = record {

@@ -3,11 +3,9 @@ use Rattle.std.proofs.Common.{◌≡◌, ℕ, suc, ◌+◌, ◌-◌, ◌<◌, �
 use Rattle.std.specs.Prelude.{unwrap_or, slice_range, if◌then◌else◌}
 use Rattle.std.proofs.lemmas.Bool.{le-leb}
 use Rattle.std.proofs.lemmas.Nat.{from_be_bytes-to_be_bytes_2}
-use Rattle.lt_layout.proofs.SuperLaws.{all_zero-zeros}
 use Rattle.std.specs.List.{AllByRecursion}
-use Rattle.std.proofs.lemmas.List.{take_at, drop_at, length-append, append-nil, drop-drop, drop-take, drop-append-le, length-take-le}
-use Rattle.std.proofs.lemmas.Grind.{flat_map-append}
-use Rattle.std.proofs.lemmas.List.Sums.{sum_by-cons, sum_by_push}
+use Rattle.std.proofs.lemmas.List.{take_at, drop_at, length-append, drop-drop, drop-take, drop-append-le, length-take-le}
+use Rattle.std.proofs.lemmas.List.Sums.{sum_by_push}
 use Rattle.std.proofs.Math.Seq.{drop-append-add}
 use Rattle.lt_terms.specs.Bytes.{u16_at, zeros, zero_block, all_zero}
 use Rattle.lt_terms.specs.Items.{Item, is_valid, item_cost, items_of, spelling, spellings, total_cost}
@@ -16,20 +14,11 @@ use Rattle.lt_layout.proofs.FillLaws.{drop-zeros}
 use Rattle.lt_item.specs.Views.{item_written}
 use Rattle.lt_format.specs.Log.{group_room, group_page, group_on}
 use Rattle.lt_redo.specs.Group.{items_on, IsGathered}
-
-length-spelling : (item : Item) → length (spelling item) ≡ item_cost item
-length-spelling item = let a = length-append item.key item.value in omega (arith, length-append item.key item.value)
-
-pub length-spellings : (items : List Item) → length (spellings items) ≡ total_cost items
-length-spellings [] = refl
-length-spellings (item ∷ items) = let cons : total_cost (item ∷ items) ≡ item_cost item + total_cost items = sum_by-cons item_cost item items in length-append (spelling item) (spellings items) ∙ omega (arith, length-spelling item, length-spellings items, cons)
+use Rattle.lt_terms.proofs.SpellingLaws.{length-spelling, length-spellings, spellings-more, all_zero-zeros}
 
 valid_push : (items : List Item) (item : Item) → AllByRecursion (λ i. IsTrue (is_valid i)) items → IsTrue (is_valid item) → AllByRecursion (λ i. IsTrue (is_valid i)) (items ++ item ∷ [])
 valid_push [] item all last = (last, tt)
 valid_push (first ∷ items) item all last = (all.0, valid_push items item all.1 last)
-
-spellings-push : (items : List Item) (item : Item) → spellings (items ++ item ∷ []) ≡ spellings items ++ spelling item
-spellings-push items item = flat_map-append spelling items (item ∷ []) ∙ ap (λ xs. spellings items ++ xs) (append-nil (spelling item))
 
 cost-push : (items : List Item) (item : Item) → total_cost (items ++ item ∷ []) ≡ total_cost items + item_cost item
 cost-push items item = sum_by_push item_cost items item
@@ -59,7 +48,7 @@ tail_push : (page : List ℕ) (used : ℕ) (items : List Item) (item : Item) →
 tail_push page used items item whole tail size room =
     ap (λ n. drop 4 (take (4 + used) page ++ spelling item ++ drop (4 + used + n) page)) (sym (length-spelling item))
     ∙ tail_more page (spellings items) (spelling item) used whole tail size (omega (arith, size, room, length-spelling item))
-    ∙ ap (λ xs. xs ++ zeros (4092 - length xs)) (sym (spellings-push items item))
+    ∙ ap (λ xs. xs ++ zeros (4092 - length xs)) (sym (spellings-more items item))
 
 -- one item more
 pub IsGathered-push : (page : List ℕ) (count used : ℕ) (items : List Item) (item : Item) → length page ≡ 4096 → IsGathered page count used items → IsTrue (is_valid item) → used + item_cost item ≤ group_room

@@ -10,28 +10,20 @@ use Rattle.lt_format.specs.declared.geometry.Geometry.{Geometry}
 use Rattle.lt_format.specs.Layout.{is_open, log_gate, log_content, first_open, closed_from}
 use Rattle.lt_format.specs.Log.{log_from, with_group, read_with, group_on, log_fits, items_in}
 use Rattle.lt_format.proofs.LocalLaws.{first_open-same}
-use Rattle.lt_redo.specs.Slots.{InSlot, HasLog, HasLogOrLonger, MayFollow}
+use Rattle.lt_redo.specs.Slots.{HasLog, HasLogOrLonger, MayFollow}
+use Rattle.lt_format.proofs.ReadLaws.{ok_same}
 
 -- all slots but this one have the same blocks
 pub record OutsideSlot (g : Geometry) (b slot : ℕ) (image left : Image) : Type 0 where
   pub gates : (k : ℕ) → k ≢ slot → block_at left (log_gate g b k) ≡ block_at image (log_gate g b k)
   pub contents : (k : ℕ) → k ≢ slot → block_at left (log_content g b k) ≡ block_at image (log_content g b k)
 
-pub OutsideSlot-from_same : (g : Geometry) (b slot : ℕ) (image left : Image) → SameOutside (InSlot g b slot) image left → OutsideSlot g b slot image left
-OutsideSlot-from_same g b slot image left same = record {
-  gates = λ k other. same.others (log_gate g b k) (λ in_slot. elim in_slot [ inl gate ↦ other (omega arith) | inr content ↦ absurd (omega arith) ]);
-  contents = λ k other. same.others (log_content g b k) (λ in_slot. elim in_slot [ inl gate ↦ absurd (omega arith) | inr content ↦ other (omega arith) ]);
-}
-
 ok_err : {A : Type 0} (x : A) (e : ℕ) → Err e ≡ Ok x → ⊥
 ok_err x e h = cc
 
-same_ok : {A : Type 0} (x y : A) → ◌≡◌ {A = Result A ℕ} (Ok x) (Ok y) → x ≡ y
-same_ok x y h = cc
-
 -- nothing is open from here on
 closed_is : {A : Type 0} (o : Option ℕ) (x y : A) → closed_from o x ≡ Ok y → (o ≡ None) × (x ≡ y)
-closed_is None x y h = (refl, same_ok x y h)
+closed_is None x y h = (refl, ok_same x y h)
 closed_is (Some gate) x y h = absurd (ok_err y gate h)
 
 not_open : (b : Bool) (x : ℕ) (o : Option ℕ) → cond b (Some x) o ≡ None → (b ≡ false) × (o ≡ None)
@@ -65,7 +57,7 @@ from_gate g image b writes i n groups opened =
 -- groups are added to those that were there
 pub log_from-grows : (g : Geometry) (image : Image) (b writes i n : ℕ) (groups all : List (List Item)) → log_from g image b writes i n groups ≡ Ok all → length groups ≤ length all
 unfolding log_from
-log_from-grows g image b writes i zero groups all h = let e = ap length (same_ok groups all h) in omega arith
+log_from-grows g image b writes i zero groups all h = let e = ap length (ok_same groups all h) in omega arith
 log_from-grows g image b writes i (suc n) groups all h =
     elim (is_open (block_at image (log_gate g b i))) as (λ opened. from_gate g image b writes i n groups opened ≡ Ok all → length groups ≤ length all) [
       | true ↦ λ h.
@@ -122,7 +114,7 @@ log_from-slot g image left b writes i (suc n) groups all group slot opened h is 
 log_from-next : (g : Geometry) (image : Image) (b writes i n : ℕ) (groups all : List (List Item)) (slot : ℕ) → log_from g image b writes i n groups ≡ Ok all
     → length all + i ≡ length groups + slot → slot < i + n → is_open (block_at image (log_gate g b slot)) ≡ false
 unfolding log_from
-log_from-next g image b writes i zero groups all slot h is fits = let e = ap length (same_ok groups all h) in absurd (omega arith)
+log_from-next g image b writes i zero groups all slot h is fits = let e = ap length (ok_same groups all h) in absurd (omega arith)
 log_from-next g image b writes i (suc n) groups all slot h is fits =
     elim (is_open (block_at image (log_gate g b i))) as (λ o. is_open (block_at image (log_gate g b i)) ≡ o → from_gate g image b writes i n groups o ≡ Ok all → is_open (block_at image (log_gate g b slot)) ≡ false) [
       | true ↦ λ o h.

@@ -1,5 +1,5 @@
 -- A log that is read slot by slot.
-use Rattle.std.proofs.Common.{◌≡◌, ℕ, suc, ◌+◌, ◌-◌, ◌<◌, ◌≤◌, refl, sym, ap, ◌∙◌, cond, List, [], ◌∷◌, ◌++◌, length, Bool, true, false, Option, Some, None, Result, Ok, Err, arith, append-nil}
+use Rattle.std.proofs.Common.{◌≡◌, ℕ, suc, ◌+◌, ◌-◌, ◌<◌, ◌≤◌, refl, sym, ap, ◌∙◌, List, [], ◌∷◌, ◌++◌, length, true, false, Option, Some, None, Result, Ok, Err, arith, append-nil}
 use Rattle.std.proofs.lemmas.Grind.{flat_map-append}
 use Rattle.std.proofs.lemmas.List.{length-append}
 use Rattle.std.proofs.lemmas.Option.{cond_some, none-some}
@@ -9,6 +9,7 @@ use Rattle.lt_format.specs.declared.geometry.Geometry.{Geometry}
 use Rattle.lt_format.specs.Layout.{is_open, log_gate, log_content, first_open, closed_from}
 use Rattle.lt_format.specs.Log.{log_from, log_groups, with_group, group_on, log_fits, items_in}
 use Rattle.lt_redo.specs.Opening.{HasItems, items_with}
+use Rattle.lt_terms.proofs.ItemLaws.{guard_none}
 
 -- the error that a `?` hands on
 pub handed_on : {T U E : Type 0} (inner : Result T E) (outer : Result U E) (fault given error : E) → inner ≡ Err fault → outer ≡ Err given → given ≡ fault → outer ≡ Err error → inner ≡ Err error
@@ -27,7 +28,7 @@ pub first_open-end : (image : Image) (gate : ℕ → ℕ) (i last : ℕ) → las
 unfolding first_open
 first_open-end image gate i last past = let none : last - i ≡ 0 = omega arith in rw none refl
 
-items_in-push : (groups : List (List Item)) (group : List Item) → items_in (groups ++ group ∷ []) ≡ items_in groups ++ group
+pub items_in-push : (groups : List (List Item)) (group : List Item) → items_in (groups ++ group ∷ []) ≡ items_in groups ++ group
 items_in-push groups group = flat_map-append (λ (items : List Item). items) groups (group ∷ []) ∙ ap (λ xs. items_in groups ++ xs) (append-nil group)
 
 -- the groups with one more, by what that makes of their items
@@ -44,15 +45,11 @@ added writes groups (Some group) old new is h =
     let fits : log_fits writes (items_in (groups ++ group ∷ [])) ≡ true = ap (log_fits writes) more ∙ made.0 in
     record { group = group; with_it = rw (fits) refl; items_is = more ∙ made.1 }
 
-no_value : {A : Type 0} (test : Bool) (x : A) → cond test (Some x) None ≡ None → test ≡ false
-no_value true x h = absurd (none-some x (sym h))
-no_value false x h = refl
-
 not_added : (writes : ℕ) (groups : List (List Item)) (read : Option (List Item)) (items : List Item) → items_in groups ≡ items → items_with writes items read ≡ None → with_group writes groups read ≡ None
 not_added writes groups None items is h = refl
 not_added writes groups (Some group) items is h =
     let more : items_in (groups ++ group ∷ []) ≡ items ++ group = items_in-push groups group ∙ ap (λ xs. xs ++ group) is in
-    let fails : log_fits writes (items_in (groups ++ group ∷ [])) ≡ false = ap (log_fits writes) more ∙ no_value (log_fits writes (items ++ group)) (items ++ group) h in
+    let fails : log_fits writes (items_in (groups ++ group ∷ [])) ≡ false = ap (log_fits writes) more ∙ guard_none (log_fits writes (items ++ group)) (items ++ group) h in
     rw (fails) refl
 
 -- the groups of the first slots were read, and what is read from the next slot on with them is the whole log
@@ -63,14 +60,6 @@ pub record IsReplayed (g : Geometry) (b writes slot : ℕ) (items : List Item) (
   pub goes_on : log_from g image b writes slot (g.slots - slot) groups ≡ log_groups g image b writes
 
 module _ (g : Geometry) (b writes : ℕ) (image : Image) where
-  pub replayed-none : IsReplayed g b writes 0 [] image
-  replayed-none = record {
-    groups = [];
-    slots_is = refl;
-    items_is = refl;
-    goes_on = let all : g.slots - 0 ≡ g.slots = omega arith in ap (λ n. log_from g image b writes 0 n []) all;
-  }
-
   -- an open gate, and behind it a content that spells a group with which the log fits
   pub replayed-more : (slot : ℕ) (old new : List Item) → slot < g.slots → IsReplayed g b writes slot old image → is_open (block_at image (log_gate g b slot)) ≡ true
       → items_with writes old (group_on (block_at image (log_content g b slot))) ≡ Some new → IsReplayed g b writes (slot + 1) new image

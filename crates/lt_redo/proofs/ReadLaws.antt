@@ -1,5 +1,5 @@
 -- Items that were read of bytes.
-use Rattle.std.proofs.Common.{◌≡◌, ℕ, zero, suc, ◌+◌, ◌-◌, ◌≤◌, refl, sym, ap, subst, ◌∙◌, cond, List, [], ◌∷◌, ◌++◌, length, drop, Bool, true, false, Option, Some, None, arith}
+use Rattle.std.proofs.Common.{◌≡◌, ℕ, zero, suc, ◌+◌, ◌-◌, ◌≤◌, refl, sym, ap, subst, ◌∙◌, List, [], ◌∷◌, ◌++◌, length, drop, true, Option, Some, None, arith}
 use Rattle.std.specs.Prelude.{nat_le}
 use Rattle.std.specs.List.{list_all}
 use Rattle.std.specs.Option.{option_and_then, option_map}
@@ -8,11 +8,7 @@ use Rattle.std.proofs.lemmas.List.Sums.{sum_by-cons}
 use Rattle.std.proofs.lemmas.Bool.{leb-true}
 use Rattle.std.proofs.lemmas.Option.{none-some}
 use Rattle.lt_terms.specs.Items.{Item, is_valid, item_cost, total_cost, front_item, items_of}
-use Rattle.lt_terms.proofs.ItemLaws.{cut_item-cuts}
-
-guarded : {A : Type 0} (test : Bool) (o : Option A) (x : A) → cond test o None ≡ Some x → (test ≡ true) × (o ≡ Some x)
-guarded true o x h = (refl, h)
-guarded false o x h = absurd (none-some x h)
+use Rattle.lt_terms.proofs.ItemLaws.{cut_item-cuts, guard_option}
 
 -- the bytes have this item and behind it the rest
 record IsOneRead (bytes rest : List ℕ) (item : Item) : Type 0 where
@@ -22,7 +18,7 @@ record IsOneRead (bytes rest : List ℕ) (item : Item) : Type 0 where
 one_read : (bytes : List ℕ) (found : Item × List ℕ) → front_item bytes ≡ Some found → IsOneRead bytes found.1 found.0
 unfolding front_item
 one_read bytes found h =
-    let read = guarded (nat_le 4 (length bytes)) _ found h in
+    let read = guard_option (nat_le 4 (length bytes)) _ found h in
     let cut = cut_item-cuts _ _ _ _ found read.1 in
     let long : 4 ≤ length bytes = leb-true _ _ read.0 in
     let behind : length (drop 4 bytes) ≡ length bytes - 4 = length-drop 4 bytes in

@@ -2,7 +2,7 @@
 use Rattle.std.proofs.Common.{◌≡◌, ℕ, ◌≤◌, refl, sym, ap, subst, ◌∙◌, List, [], ◌∷◌, ◌++◌, take, length, append-nil, Bool, true, false, Option, Some, None, arith}
 use Rattle.std.specs.Prelude.{IsTrue}
 use Rattle.std.proofs.lemmas.List.{take_all}
-use Rattle.lt_terms.specs.Items.{Item}
+use Rattle.lt_terms.specs.Items.{Item, put_of, delete_of}
 use Rattle.lt_device.specs.Moments.{Leaves}
 use Rattle.lt_device.specs.State as told
 use Rattle.lt_image.specs.Standing.{after_writes}
@@ -10,7 +10,7 @@ use Rattle.lt_image.proofs.KeptLaws.{no_writes}
 use Rattle.lt_language.specs.declared.Bad.{Bad}
 use Rattle.lt_language.specs.Commands as commands
 use Rattle.lt_language.specs.Commands.{Command}
-use Rattle.lt_language.specs.Machine.{State, Step, put_of, delete_of, taken}
+use Rattle.lt_language.specs.Machine.{State, Step, taken}
 use Rattle.lt_language.specs.Replies as replies
 use Rattle.lt_language.specs.Replies.{Reply, text}
 use Rattle.lt_line.specs.Waiting.{Waiting, with_text}

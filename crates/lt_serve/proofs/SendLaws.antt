@@ -35,15 +35,6 @@ sends-empties stands0 stands waiting0 waiting sends = (
   ap (λ (w : Waiting). w.pending_text) sends.dropped,
 )
 
--- nothing is left: the sink took all of it
-pub sends-all : (count : ℕ) (stands0 stands : List ℕ → Type 0) (waiting0 waiting : Waiting) → Sends count stands0 stands waiting0 waiting → length waiting.settled_text ≡ 0 → Sends (length waiting0.settled_text) stands0 stands waiting0 waiting
-sends-all count stands0 stands waiting0 waiting so_far none =
-    let left : length waiting.settled_text ≡ length (drop count waiting0.settled_text) = ap (λ (w : Waiting). length w.settled_text) so_far.dropped in
-    let rest : length (drop count waiting0.settled_text) ≡ length waiting0.settled_text - count = length-drop count waiting0.settled_text in
-    let within : count ≤ length waiting0.settled_text = so_far.within in
-    let all : count ≡ length waiting0.settled_text = omega arith in
-    subst (λ (n : ℕ). Sends n stands0 stands waiting0 waiting) all so_far
-
 -- the sink took nothing, and then more
 pub gains_some-none : (stands : List ℕ → Type 0) → GainsSome stands stands
 gains_some-none stands = record { shown = []; gained = Gains-none stands }

@@ -273,11 +273,6 @@ names-one : {A : Type 0} (r : Result A ℕ) (a b : ℕ) → r ≡ Err a → r �
 names-one (Ok x) a b first second = absurd (cc (first))
 names-one (Err e) a b first second = let one : e ≡ a = cc (first) in let two : e ≡ b = cc (second) in sym one ∙ two
 
--- what opens stops at no block
-pub opens-whole : {A : Type 0} (r : Result A ℕ) (x : A) (b : ℕ) → r ≡ Ok x → r ≡ Err b → ⊥
-opens-whole (Ok y) x b opens stops = absurd (cc (stops))
-opens-whole (Err e) x b opens stops = absurd (cc (opens))
-
 unopened-names : (fault : OpenFault) (s : told.State) (b : ℕ) → ((block : ℕ) → fault ≡ opens.Damaged block → StopsOpening s block) → FailsToOpen s b → IsUnopened b (unopened_of fault)
 unopened-names opens.Device s b stops fails = tt
 unopened-names (opens.Damaged block) s b stops fails = names-one (open_image fails.image) block b (stops block refl fails.image fails.shown) fails.stops

@@ -1,12 +1,12 @@
 -- What an event comes to.
 use Rattle.std.proofs.Common.{◌≡◌, ℕ, ◌+◌, ◌*◌, ◌<◌, ◌≤◌, refl, sym, ap, subst, ◌∙◌, List, [], Bool, true, false, Option, Some, Result, Ok, Err, true≢false}
-use Rattle.std.specs.Prelude.{◌↔◌, ◌≢◌, IsErrOf, OnErr}
-use Rattle.lt_terms.specs.Items.{Item}
+use Rattle.std.specs.Prelude.{◌↔◌, ◌≢◌, IsErrOf}
+use Rattle.lt_terms.specs.Items.{Item, put_of, delete_of}
 use Rattle.lt_device.specs.State as told
 use Rattle.lt_device.specs.Moments.{Leaves}
 use Rattle.lt_language.specs.Commands as commands
 use Rattle.lt_language.specs.Commands.{Command}
-use Rattle.lt_language.specs.Machine.{State, most_writes, put_of, delete_of}
+use Rattle.lt_language.specs.Machine.{State, most_writes}
 use Rattle.lt_image.specs.Standing.{after_writes}
 use Rattle.lt_store.specs.declared.acting.Outcome.{Outcome}
 use Rattle.lt_store.specs.declared.acting.Outcome.TheVariants as outcomes
@@ -25,7 +25,7 @@ use Rattle.lt_store.specs.Open.{StoreView, IsOpen, IsRooted}
 use Rattle.lt_store.specs.Taking.{accepted_by}
 use Rattle.lt_store.proofs.GoLaws.{goes-none}
 use Rattle.lt_store.proofs.RootedLaws.{rooted-none}
-use Rattle.lt_store.proofs.GroupLaws.{after_none}
+use Rattle.lt_image.proofs.KeptLaws.{no_writes}
 
 -- ---- calls that ask
 
@@ -36,7 +36,7 @@ pub asks-rooted : (v : StoreView) (d : State) (s t : told.State) → t ≡ s →
 asks-rooted v d s t kept o = subst (λ e. Leaves IsRooted s e) (sym kept) (rooted-none v d s o)
 
 pub stat-step : (e : ℕ) (s : State) (stat : Stat) (page : List ℕ) → stat.writes ≡ s.writes → stat.tables + stat.free ≤ e → IsStep e s (Some commands.stat) (reply_of (outcomes.Stat stat) page) (after_writes s [])
-stat-step e s stat page number within = ((number, within), after_none s)
+stat-step e s stat page number within = ((number, within), no_writes s)
 
 -- ---- writes
 
@@ -52,16 +52,16 @@ module _ (e n : ℕ) (s : State) (answer : Taken) (number : s.writes ≡ n) (lim
     where
       by_answer : (t : Taken) → answer ≡ t → IsStep e s (Some (commands.put key value)) (reply_of (outcomes.Taken t) page) (after_writes s (accepted_by (put_of key value) t))
       by_answer taken.Ok is = (below (λ h. cc), refl)
-      by_answer (taken.Full needed free) is = let short = room needed free is in (below (λ h. cc), short.0, short.1, after_none s)
-      by_answer taken.Limit is = (number ∙ limit.0 is, after_none s)
+      by_answer (taken.Full needed free) is = let short = room needed free is in (below (λ h. cc), short.0, short.1, no_writes s)
+      by_answer taken.Limit is = (number ∙ limit.0 is, no_writes s)
 
   pub delete-step : (key page : List ℕ) → IsStep e s (Some (commands.delete key)) (reply_of (outcomes.Taken answer) page) (after_writes s (accepted_by (delete_of key) answer))
   delete-step key page = by_answer answer refl
     where
       by_answer : (t : Taken) → answer ≡ t → IsStep e s (Some (commands.delete key)) (reply_of (outcomes.Taken t) page) (after_writes s (accepted_by (delete_of key) t))
       by_answer taken.Ok is = (below (λ h. cc), refl)
-      by_answer (taken.Full needed free) is = let short = room needed free is in (below (λ h. cc), short.0, short.1, after_none s)
-      by_answer taken.Limit is = (number ∙ limit.0 is, after_none s)
+      by_answer (taken.Full needed free) is = let short = room needed free is in (below (λ h. cc), short.0, short.1, no_writes s)
+      by_answer taken.Limit is = (number ∙ limit.0 is, no_writes s)
 
 -- a write that was refused, with the store up or not
 module _ (up : Bool) (result : Result Taken WriteFault) (fault : WriteFault) (was : result ≡ Err fault) (downs : (up ≡ false) ↔ IsErrOf result Device) (undamaged : (b : ℕ) → IsErrOf result (Damaged b) → ⊥) where
@@ -92,10 +92,6 @@ tells-fault page answer looks.Device told is h = subst (λ (f : WriteFault). Tel
 tells-fault page answer (looks.Damaged b) told is h = subst (λ (f : WriteFault). TellsSeen page answer (Err f)) (sym is) h
 
 -- ---- answers within others
-
-pub on_err : {T E Q : Type 0} (r : Result T E) → Q → OnErr r Q
-on_err (Ok x) q = tt
-on_err (Err e) q = q
 
 pub same-answer : (a b : Taken) → ◌≡◌ {A = Result Taken WriteFault} (Ok a) (Ok b) → a ≡ b
 same-answer a b h = cc

@@ -1,9 +1,8 @@
 -- What an open store's image holds, and what a get answers from it.
-use Rattle.std.proofs.Common.{◌≡◌, ℕ, ◌+◌, ◌*◌, ◌<◌, ◌≤◌, refl, sym, ap, subst, ◌∙◌, List, [], ◌∷◌, ◌++◌, length, Bool, true, false, cond, Option, Some, None, Result, Ok, Err, append_assoc, length-append, arith, ltb-true}
-use Rattle.std.specs.Prelude.{IsFalse, nat_lt}
+use Rattle.std.proofs.Common.{◌≡◌, ℕ, ◌+◌, ◌*◌, ◌<◌, ◌≤◌, refl, sym, ap, subst, ◌∙◌, List, [], ◌∷◌, ◌++◌, length, Bool, true, false, cond, Option, Some, None, Result, Ok, Err, append_assoc, length-append, arith}
+use Rattle.std.specs.Prelude.{IsFalse}
 use Rattle.std.specs.List.{AllByRecursion}
 use Rattle.std.specs.Option.{option_or, option_map_or}
-use Rattle.std.proofs.lemmas.Bool.{and_parts}
 use Rattle.std.proofs.lemmas.List.{take_at}
 use Rattle.std.proofs.lemmas.List.Sums.{fold-append}
 use Rattle.lt_terms.specs.Bytes.{Image}
@@ -20,18 +19,16 @@ use Rattle.lt_tables.proofs.RankLaws.{newest_or}
 use Rattle.lt_tables.proofs.NewestLaws.{newest_of-append}
 use Rattle.lt_tables.proofs.VersionLaws.{get_versions}
 use Rattle.lt_format.specs.declared.geometry.Geometry.{Geometry}
-use Rattle.lt_format.specs.Log.{log_groups, items_in}
-use Rattle.lt_format.specs.Naming.{Named}
+use Rattle.lt_format.specs.Log.{items_in}
 use Rattle.lt_format.specs.Layout.{extent_block}
-use Rattle.lt_format.specs.Trie.{Trie, root, named, all_below, IsTrie}
-use Rattle.lt_format.proofs.ReadLaws.{ok_same}
+use Rattle.lt_format.specs.Trie.{Trie, root, named, IsTrie}
 use Rattle.lt_htable.specs.declared.faults.LookFault.{LookFault}
 use Rattle.lt_htable.specs.declared.faults.LookFault.TheVariants.{Device, Damaged}
 use Rattle.lt_image.specs.OnPath.{Stop, first_some}
-use Rattle.lt_image.specs.Opening.{Opened, open_image}
+use Rattle.lt_image.specs.Opening.{Opened}
 use Rattle.lt_image.specs.Versions.{extent_in, items_at, pile_items, versions}
 use Rattle.lt_image.proofs.MapLaws.{named-tables}
-use Rattle.lt_image.proofs.OpenLaws.{opens-is, opens-well}
+use Rattle.lt_image.proofs.OpenLaws.{opens-well}
 use Rattle.lt_image.proofs.PathLaws.{newest_or-is, first_some-pile}
 use Rattle.lt_image.proofs.PlacedLaws.{named-placed, named-skips}
 use Rattle.lt_image.proofs.RootLaws.{root-stops}
@@ -43,6 +40,8 @@ use Rattle.lt_store.specs.Building.{KeepsFilter}
 use Rattle.lt_store.specs.Getting.{Finds, Answers, IsVersion, IsAnswer, IsReadable, HoldsKey, asked_from, with_value, version_of, page_with, value_len}
 use Rattle.lt_store.specs.Kept.{IsKept}
 use Rattle.lt_store.specs.Open.{StoreView, IsOpen, root_pile, state_of}
+use Rattle.lt_store.proofs.FilterLaws.{below_all}
+use Rattle.lt_store.proofs.MomentLaws.{open-image}
 
 -- ---- a value at the front of a page
 
@@ -82,19 +81,6 @@ at_parts : (P : Geometry → List (Option (List ℕ)) → List ℕ → Type 0) (
 at_parts P g h kept filters tables pile a b c p = subst (λ xs. P h filters xs) c (subst (λ fs. P h fs tables) b (subst (λ f. P f kept tables) a p))
 
 module _ (v : StoreView) (d : State) (device : told.State) (o : IsOpen v d device) (filters : ℕ) (k : IsKept v.named v.log v.memory v.taken filters v.writes) (key : List ℕ) where
-  pub open-image : open_image o.rest.image ≡ Ok (record { named = v.named; groups = o.groups })
-  open-image =
-      let image = o.rest.image in
-      let st = o.rest.each image o.rest.tells in
-      let is = opens-is image st.opened st.opens in
-      let named : st.opened.named ≡ v.named = ok_same st.opened.named v.named (sym is.named ∙ o.rest.names.read ∙ ap Ok o.named) in
-      let read : log_groups v.named.geometry image v.named.manifest.header.log_area v.named.manifest.header.writes ≡ Ok st.opened.groups
-      = subst (λ (n : Named). log_groups n.geometry image n.manifest.header.log_area n.manifest.header.writes ≡ Ok st.opened.groups) named is.log in
-      let log : log_groups v.named.geometry image v.named.manifest.header.log_area v.named.manifest.header.writes ≡ Ok o.groups
-      = subst (λ a. log_groups v.named.geometry image a v.named.manifest.header.writes ≡ Ok o.groups) k.area (subst (λ w. log_groups v.named.geometry image v.log.area w ≡ Ok o.groups) k.start o.log.read) in
-      let groups : st.opened.groups ≡ o.groups = ok_same st.opened.groups o.groups (sym read ∙ log) in
-      st.opens ∙ (λ i. Ok (record { named = named i; groups = groups i }))
-
   pile : List Item
   pile = pile_items v.named.geometry o.rest.image (root_pile v.named.manifest.trie)
 
@@ -103,13 +89,13 @@ module _ (v : StoreView) (d : State) (device : told.State) (o : IsOpen v d devic
 
   sound_as : StandsAs o.rest.image opened d
   unfolding opened
-  sound_as = stands-as o.rest.image opened d open-image (o.rest.each o.rest.image o.rest.tells)
+  sound_as = stands-as o.rest.image opened d (open-image v d device o k.area k.start) (o.rest.each o.rest.image o.rest.tells)
 
   newest_stored : newest_of key (versions opened o.rest.image) ≡ newest_of key (pile ++ items_in o.groups)
   unfolding opened pile
   newest_stored =
       let image = o.rest.image in
-      let well = opens-well image opened open-image in
+      let well = opens-well image opened (open-image v d device o k.area k.start) in
       let held = items_at v.named.geometry image in
       let trie : Trie = v.named.manifest.trie in
       sound-found opened image key well.rising sound_as.sound
@@ -191,10 +177,6 @@ counts-none n a = record { later = omega arith; at_most = omega arith }
 
 extent_within : (g : Geometry) (x extents blocks : ℕ) → extent_block g extents ≤ blocks → x < extents → extent_block g x + 65 ≤ blocks
 extent_within g x extents blocks within below = omega arith
-
-below_all : (extents : ℕ) (xs : List ℕ) → all_below extents xs ≡ true → AllByRecursion (λ x. x < extents) xs
-below_all extents [] h = tt
-below_all extents (x ∷ xs) h = let parts = and_parts (nat_lt x extents) (all_below extents xs) h in (ltb-true _ _ parts.0, below_all extents xs parts.1)
 
 all_within : (P Q : ℕ → Type 0) → ((x : ℕ) → P x → Q x) → (xs : List ℕ) → AllByRecursion P xs → AllByRecursion Q xs
 all_within P Q f [] all = tt

@@ -5,21 +5,23 @@ use Rattle.std.proofs.lemmas.List.{get_or-set_same, get_or-set_other}
 use Rattle.std.proofs.lemmas.Bool.{cases_eq, true≢false}
 use Rattle.lt_terms.specs.Bytes.{Image}
 use Rattle.lt_terms.specs.Items.{Item}
+use Rattle.lt_terms.specs.Numbers.{is_in}
 use Rattle.lt_device.specs.State.{State}
 use Rattle.lt_device.specs.Image.{SameOutside}
-use Rattle.lt_device.specs.Moments.{ConfinedTo}
+use Rattle.lt_device.specs.Moments.{ConfinedTo, ShowsSameOutside}
 use Rattle.lt_device.proofs.Runs.{confined_within}
 use Rattle.lt_device.proofs.Steps.{same_some}
 use Rattle.lt_tables.specs.Bucket.{bucket_of}
-use Rattle.lt_tables.specs.Filter.{is_in, filter_block}
+use Rattle.lt_tables.specs.Filter.{filter_block}
 use Rattle.lt_tables.specs.Table.{IsPlaced, blocks_from}
 use Rattle.lt_format.specs.declared.geometry.Geometry.{Geometry}
 use Rattle.lt_format.specs.Layout.{extent_block}
 use Rattle.lt_format.specs.Trie.{all_distinct}
-use Rattle.lt_htable.specs.Building.{InExtent, ShowsSameOutside}
+use Rattle.lt_htable.specs.Building.{InExtent}
 use Rattle.lt_image.specs.Versions.{extent_in}
 use Rattle.lt_store.specs.Building.{InExtents, HasTable}
 use Rattle.lt_store.proofs.NumberLaws.{is_in-at, apart-at, extents-apart}
+use Rattle.lt_device.proofs.Shows.{shows-joins}
 
 -- ---- what a table rests on
 
@@ -41,20 +43,6 @@ table-stays g kept new old image x y items differ same others has =
     }
 
 -- ---- one table more
-
-pub shows_within : {S T : ℕ → Type 0} {start mid last : Option Image} → ShowsSameOutside S start mid → ShowsSameOutside T mid last → ((n : ℕ) → T n → S n) → ShowsSameOutside S start last
-shows_within {S} {T} {start} {mid} {last} so_far more within = record {
-  each = λ before is.
-      let was = so_far.each before is in
-      let now = more.each was.0 was.1 in (
-        now.0,
-        now.1,
-        record {
-          size = now.2.size ∙ was.2.size;
-          others = λ k out. now.2.others k (λ inside. out (within k inside)) ∙ was.2.others k out;
-        },
-      );
-}
 
 -- the first so many tables are built, and nothing else has changed
 pub record AreBuilt (g : Geometry) (start kept : List (Option (List ℕ))) (old new : State) (numbers : List ℕ) (tables : List (List Item)) (count : ℕ) : Type 0 where
@@ -80,7 +68,7 @@ inside_all g numbers i first below is n inside = record {
 pub AreBuilt-writing : {g : Geometry} {start kept : List (Option (List ℕ))} {old mid new : State} {numbers : List ℕ} {tables : List (List Item)} {i : ℕ} (first : ℕ) → AreBuilt g start kept old mid numbers tables i → i < length numbers → first ≡ extent_block g (get_or numbers i 0) → IsWriting first mid new → ConfinedTo (InExtents g numbers) old new × ShowsSameOutside (InExtents g numbers) old.shown new.shown
 AreBuilt-writing {g} {start} {kept} {old} {mid} {new} {numbers} {tables} {i} first built below is writing =
     let within = inside_all g numbers i first below is in
-    (confined_within writing.confined built.confined within, shows_within built.shows writing.shows within)
+    (confined_within writing.confined built.confined within, shows-joins _ _ _ _ _ _ built.shows writing.shows (λ k inside. inside) within)
 
 -- the table is whole
 pub record IsWritten (first : ℕ) (items : List Item) (page : List ℕ) (new : State) : Type 0 where

@@ -1,5 +1,5 @@
 -- What the commit of the open group says of the store.
-use Rattle.std.proofs.Common.{◌≡◌, inl, ℕ, ◌+◌, ◌-◌, ◌<◌, ◌≤◌, refl, sym, ap, subst, ◌∙◌, List, [], ◌∷◌, ◌++◌, length, take, drop, arith, append-nil, length-append}
+use Rattle.std.proofs.Common.{◌≡◌, inl, ℕ, ◌<◌, refl, sym, ap, subst, ◌∙◌, List, [], ◌∷◌, ◌++◌, length, drop, arith, append-nil}
 use Rattle.std.specs.Prelude.{IsTrue, Bool}
 use Rattle.lt_terms.specs.Items.{Item}
 use Rattle.lt_device.specs.State as told
@@ -7,23 +7,22 @@ use Rattle.lt_device.proofs.Runs.{begins}
 use Rattle.lt_device.specs.Moments.{MayLeave, Leaves, ConfinedTo, UnsyncedIn}
 use Rattle.lt_language.specs.Machine.{State}
 use Rattle.lt_format.specs.Log.{items_in, log_fits}
-use Rattle.lt_format.specs.Naming.{Named}
-use Rattle.lt_redo.specs.LogState.{LogState, slots_with}
 use Rattle.lt_redo.specs.Slots.{HasLog, InSlot}
 use Rattle.lt_redo.proofs.NextGroup.{AnyMoment, Committed}
 use Rattle.lt_image.specs.Standing.{after_writes}
 use Rattle.lt_image.proofs.RootLaws.{root-named}
 use Rattle.std.proofs.lemmas.Bool.{and_parts, leb-true}
 use Rattle.std.specs.Prelude.{nat_le}
-use Rattle.lt_store.specs.Committing.{StandsForEither, committed, committed_log}
+use Rattle.lt_store.specs.Committing.{StandsForEither, committed}
 use Rattle.lt_store.specs.Going.{Goes, Survives}
-use Rattle.lt_store.specs.Kept.{IsKept, logged}
+use Rattle.lt_store.specs.Kept.{IsKept}
 use Rattle.lt_store.specs.Open.{IsOpen, StoreView}
 use Rattle.lt_store.proofs.FlushLaws.{Fits}
 use Rattle.lt_store.proofs.GoLaws.{goes-none}
-use Rattle.lt_store.proofs.GroupLaws.{group-open, group-survives, group-whole, idle-open, items_in-more, take-whole}
+use Rattle.lt_store.proofs.GroupLaws.{group-open, group-survives, group-whole, idle-open, take-whole}
 use Rattle.lt_store.proofs.MomentLaws.{open-same}
 use Rattle.lt_store.proofs.SameLaws.{same-log}
+use Rattle.lt_redo.proofs.OpeningLaws.{items_in-push}
 
 -- what a kept store says of its view
 pub kept-fits : (v : StoreView) (d : State) (s : told.State) (taken : List Bool) (filters writes : ℕ) → IsOpen v d s → IsKept v.named v.log v.memory taken filters writes → Fits v
@@ -47,7 +46,7 @@ open-logs v d s o f left may =
 -- the log with the open group fits
 pub group-fits : (v : StoreView) (d : State) (s : told.State) (filters : ℕ) (o : IsOpen v d s) → IsKept v.named v.log v.memory v.taken filters v.writes → IsTrue (log_fits v.log.writes (items_in (o.groups ++ v.log.pending ∷ [])))
 group-fits v d s filters o k =
-    subst (λ xs. IsTrue (log_fits v.log.writes xs)) (o.memory ∙ sym (items_in-more o.groups v.log.pending)) (subst (λ w. IsTrue (log_fits w v.memory)) (sym k.start) k.fits)
+    subst (λ xs. IsTrue (log_fits v.log.writes xs)) (o.memory ∙ sym (items_in-push o.groups v.log.pending)) (subst (λ w. IsTrue (log_fits w v.memory)) (sym k.start) k.fits)
 
 module _ (v : StoreView) (d : State) (filters : ℕ) (old new : told.State) (k : IsKept v.named v.log v.memory v.taken filters v.writes) (o : IsOpen v d old) (any : AnyMoment v.log old new) (inside : ConfinedTo (InSlot v.log.geometry v.log.area v.log.slots) old new) where
   -- nothing is lost at any moment
@@ -116,47 +115,3 @@ commit-whole v d filters old new k o any inside idle = decide v.log.pending refl
     decide : (p : List Item) → v.log.pending ≡ p → Leaves (StandsForEither d (after_writes d v.log.pending)) old new
     decide [] is = subst (λ s. Leaves (StandsForEither d (after_writes d v.log.pending)) old s) (sym (idle is)) (begins old (λ left may. inl (o.rest.each left may)))
     decide (x ∷ xs) is = let some : 0 < length v.log.pending = omega (arith, ap length is) in commit-all v d filters old new k o any inside some
-
--- the facts in memory after a commit
-pub commit-kept : (n : Named) (log : LogState) (memory : List Item) (taken : List Bool) (filters writes : ℕ) → IsKept n log memory taken filters writes → IsKept n (committed_log log) memory taken filters writes
-commit-kept n log memory taken filters writes k =
-    record {
-      manifest = k.manifest;
-      geometry = k.geometry;
-      area = k.area;
-      start = k.start;
-      items = sym (all memory) ∙ sym (append-nil _);
-      fits = k.fits;
-      number = k.number;
-      enough = slots log.pending refl;
-      within = inside log.pending refl;
-      slot = λ some. absurd (omega arith);
-      room = omega arith;
-      extents = k.extents;
-      free = k.free;
-      filters_len = k.filters_len;
-    }
-  where
-    whole : (xs : List Item) → take (length xs) xs ≡ xs
-    whole [] = refl
-    whole (x ∷ xs) = ap (λ ys. x ∷ ys) (whole xs)
-
-    all : (xs : List Item) → take (length xs - 0) xs ≡ xs
-    all xs = let n : length xs - 0 ≡ length xs = omega arith in ap (λ k. take k xs) n ∙ whole xs
-
-    slots : (p : List Item) → log.pending ≡ p → slots_with log.slots log.pending ≤ length memory - 0
-    slots [] is = let none : slots_with log.slots log.pending ≡ log.slots = ap (slots_with log.slots) is in let e = k.enough in omega (arith, none, e)
-    slots (x ∷ xs) is =
-        let some : slots_with log.slots log.pending ≡ log.slots + 1 = ap (slots_with log.slots) is in
-        let size : length log.pending ≡ length (x ∷ xs) = ap length is in
-        let e = k.enough in
-        let count : length memory ≡ length (logged log memory) + length log.pending = ap length k.items ∙ length-append (logged log memory) log.pending in
-        omega (arith, some, e, size, count)
-
-    inside : (p : List Item) → log.pending ≡ p → slots_with log.slots log.pending ≤ n.geometry.slots
-    inside [] is = let none : slots_with log.slots log.pending ≡ log.slots = ap (slots_with log.slots) is in let w = k.within in omega (arith, none, w)
-    inside (x ∷ xs) is =
-        let some : slots_with log.slots log.pending ≡ log.slots + 1 = ap (slots_with log.slots) is in
-        let size : length log.pending ≡ length (x ∷ xs) = ap length is in
-        let slot : log.slots < n.geometry.slots = k.slot (omega (arith, size)) in
-        omega (arith, some, slot)

@@ -2,16 +2,16 @@
 use Rattle.std.proofs.Common.{◌≡◌, ℕ, zero, suc, ◌+◌, ◌<◌, ◌≤◌, refl, sym, ap, subst, ◌∙◌, List, [], ◌∷◌, ◌++◌, length, Bool, true, false, not, cond, length-append, zero-add, arith}
 use Rattle.std.proofs.lemmas.Bool.{eq-eqb, ne_eqb, not-true}
 use Rattle.std.proofs.lemmas.List.Sums.{sum_by-cons}
-use Rattle.lt_tables.specs.Filter.{is_in}
+use Rattle.lt_terms.specs.Numbers.{is_in}
 use Rattle.lt_alloc.specs.Extents.{is_free, free_count}
 use Rattle.lt_alloc.proofs.StackLaws.{is_free-within}
-use Rattle.lt_format.specs.declared.node_id.NodeId.{NodeId}
 use Rattle.lt_format.specs.Naming.{Named}
-use Rattle.lt_format.specs.Trie.{Node, Trie, node_extents, named, table_total, all_distinct, all_below}
+use Rattle.lt_format.specs.Trie.{named, table_total, all_distinct, all_below}
 use Rattle.lt_format.proofs.Numbers.{times, times-append, times-absent, times-distinct, times-below, below-times, few-below}
 use Rattle.lt_redo.specs.LogState.{LogState}
 use Rattle.lt_terms.specs.Items.{Item}
 use Rattle.lt_store.specs.Kept.{IsKept}
+use Rattle.lt_node.proofs.TotalLaws.{total_named}
 
 -- the free numbers from k on
 free_from : ℕ → List Bool → List ℕ
@@ -72,16 +72,9 @@ apart-few n taken xs len free distinct below =
     beyond : (x : ℕ) → n ≤ x → times x (free_from 0 taken) ≡ 0
     beyond x past = at x ∙ outside x (is_free taken x) refl past
 
-tables_named : (trie : Trie) → table_total trie ≤ length (named trie)
-tables_named [] = omega arith
-tables_named (e ∷ es) =
-    let sum = sum_by-cons (λ (e : NodeId × Node). length e.1.tables) e es in
-    let rest = tables_named es in
-    omega (arith, sum, rest, length-append (node_extents e.1) (named es), length-append e.1.tables e.1.groups)
-
 -- the tables and the free extents of a store
 pub tables-free : (n : Named) (log : LogState) (memory : List Item) (taken : List Bool) (filters writes : ℕ) → IsKept n log memory taken filters writes → table_total n.manifest.trie + free_count taken ≤ n.manifest.header.extents
 tables-free n log memory taken filters writes k =
     let few = apart-few n.manifest.header.extents taken (named n.manifest.trie) k.extents k.free k.manifest.trie.distinct k.manifest.trie.below in
-    let tables = tables_named n.manifest.trie in
+    let tables = total_named n.manifest.trie in
     omega (arith, few, tables)

@@ -5,7 +5,7 @@ use Rattle.std.specs.List.{AllByRecursion}
 use Rattle.std.proofs.lemmas.Bool.{and_parts, ltb-true, true≢false, cases_eq}
 use Rattle.std.proofs.lemmas.List.{get_or-set_same, get_or-set_other, length-append}
 use Rattle.lt_terms.specs.Bytes.{Image, block_at}
-use Rattle.lt_tables.specs.Filter.{is_in}
+use Rattle.lt_terms.specs.Numbers.{is_in}
 use Rattle.lt_format.specs.declared.geometry.Geometry.{Geometry}
 use Rattle.lt_format.specs.declared.node_id.NodeId.{NodeId}
 use Rattle.lt_format.specs.Layout.{extent_block}
@@ -18,17 +18,13 @@ use Rattle.lt_store.specs.Building.{KeepsFilter}
 use Rattle.lt_store.specs.Open.{root_pile}
 use Rattle.lt_store.specs.Reading.{KeepsFilters}
 use Rattle.lt_store.proofs.NumberLaws.{is_in-at}
+use Rattle.lt_store.proofs.PileLaws.{all_at}
 
 -- ---- the tables of the root
 
-below_all : (n : ℕ) (xs : List ℕ) → all_below n xs ≡ true → AllByRecursion (λ x. x < n) xs
+pub below_all : (n : ℕ) (xs : List ℕ) → all_below n xs ≡ true → AllByRecursion (λ x. x < n) xs
 below_all n [] all = tt
 below_all n (x ∷ xs) all = let parts = and_parts (nat_lt x n) (all_below n xs) all in (ltb-true x n parts.0, below_all n xs parts.1)
-
-all_at : (P : ℕ → Type 0) (xs : List ℕ) (i : ℕ) → AllByRecursion P xs → i < length xs → P (get_or xs i 0)
-all_at P [] i all below = absurd (omega arith)
-all_at P (x ∷ xs) zero all below = all.0
-all_at P (x ∷ xs) (suc i) all below = all_at P xs i all.1 (omega arith)
 
 -- they are extents of the store
 pub pile-below : {levels extents : ℕ} (trie : Trie) (i : ℕ) → IsTrie levels extents trie → i < length (root_pile trie) → get_or (root_pile trie) i 0 < extents

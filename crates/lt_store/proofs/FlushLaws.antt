@@ -11,7 +11,7 @@ use Rattle.lt_device.proofs.Images.{same_outside_joins, same_outside_widens}
 use Rattle.lt_device.proofs.Runs.{weakens, both}
 use Rattle.lt_language.specs.Machine.{State}
 use Rattle.lt_tables.specs.Cut.{cut}
-use Rattle.lt_tables.specs.Filter.{is_in}
+use Rattle.lt_terms.specs.Numbers.{is_in}
 use Rattle.lt_tables.specs.Merge.{newest}
 use Rattle.lt_format.specs.declared.geometry.Geometry.{Geometry}
 use Rattle.lt_format.specs.declared.header.Header.{Header}
@@ -40,7 +40,7 @@ use Rattle.lt_store.specs.Open.{IsOpen, StoreView, root_pile}
 use Rattle.lt_store.proofs.SameLaws.{Same, same-other, same-unnamed, same-names}
 use Rattle.lt_image.specs.Versions.{extent_in as extent_at}
 use Rattle.lt_tables.specs.Table.{IsPlaced}
-use Rattle.lt_store.proofs.MomentLaws.{IsReady, open-steady, open-names, open-ready, open-agrees, open-same, open-from, keeps-same, same-ready, sure-agrees}
+use Rattle.lt_store.proofs.MomentLaws.{IsReady, open-steady, open-names, open-ready, open-agrees, open-same, open-from, keeps-same, same-ready, sure-agrees, open-image}
 
 -- what a store in memory says of its view, whatever the device holds
 pub record Fits (v : StoreView) : Type 0 where
@@ -190,12 +190,6 @@ module _ (v : StoreView) (d : State) (old new : told.State) (o : IsOpen v d old)
   before : Opened
   before = record { named = v.named; groups = o.groups }
 
-  opens_before : open_image o.rest.image ≡ Ok (record { named = v.named; groups = o.groups })
-  opens_before =
-      let log = subst (λ k. HasLog v.named.geometry k v.log.writes o.groups o.rest.image) fits.area o.log in
-      let log' = subst (λ w. HasLog v.named.geometry v.named.manifest.header.log_area w o.groups o.rest.image) fits.start log in
-      is-opens o.rest.image (record { named = v.named; groups = o.groups }) (open-names v d old o).read log'.read
-
   -- an image with the new manifest, behind which all is as it was shown
   pub new-stands : (area : ℕ) (left : Image) → HasNew (record { geometry = v.named.geometry; area = area; manifest = after_commit v.named.manifest (flush numbers) header }) o.rest.image left → Stands left d
   new-stands area left has =
@@ -213,8 +207,8 @@ module _ (v : StoreView) (d : State) (old new : told.State) (o : IsOpen v d old)
       let count : header.writes ≡ v.named.manifest.header.writes + length (items_in o.groups) = writes ∙ ap (λ xs. v.named.manifest.header.writes + length xs) memory_is in
       let number : number_of p ≡ number_of b = omega (arith, count) in
       let stands = o.rest.each shown o.rest.tells in
-      flush-stands shown left b p numbers d opens_before opens stands
-      (flushes shown left b p numbers opens_before (stands-sound shown d b opens_before stands) follows placed_log refl number) number
+      flush-stands shown left b p numbers d (open-image v d old o fits.area fits.start) opens stands
+      (flushes shown left b p numbers (open-image v d old o fits.area fits.start) (stands-sound shown d b (open-image v d old o fits.area fits.start) stands) follows placed_log refl number) number
 
   -- an image with the manifest as it was
   pub old-stands : (image left : Image) → MayLeave old image → SameOutside InManifest image left → Names v.named left → Stands left d

@@ -1,5 +1,5 @@
 -- A store that a flush is due for: what a crash leaves of it, and how full it is.
-use Rattle.std.proofs.Common.{◌≡◌, ◌≢◌, ℕ, zero, suc, ◌+◌, ◌*◌, ◌<◌, ◌≤◌, refl, sym, ap, subst, ◌∙◌, List, [], ◌∷◌, ◌++◌, length, map, drop, Bool, true, false, not, ◌&&◌, ◌||◌, cond, Some, Ok, arith, append-nil, length-append, ⊎_elim}
+use Rattle.std.proofs.Common.{◌≡◌, ◌≢◌, ℕ, zero, suc, ◌+◌, ◌*◌, ◌<◌, ◌≤◌, refl, sym, ap, subst, ◌∙◌, List, [], ◌∷◌, ◌++◌, length, map, drop, Bool, true, false, not, ◌||◌, cond, Some, Ok, arith, append-nil, length-append, ⊎_elim}
 use Rattle.std.specs.Prelude.{IsTrue, ◌==◌, nat_le, nat_lt}
 use Rattle.std.specs.FinMap.{find}
 use Rattle.std.specs.List.{AllByRecursion, flat_map, enumerate_from}
@@ -14,7 +14,7 @@ use Rattle.lt_device.specs.State as told
 use Rattle.lt_language.specs.Machine.{State}
 use Rattle.lt_tables.specs.declared.Entry.{Entry}
 use Rattle.lt_tables.specs.Cut.{table_total, table_count, counts_within}
-use Rattle.lt_tables.specs.Filter.{is_in}
+use Rattle.lt_terms.specs.Numbers.{is_in}
 use Rattle.lt_tables.specs.Merge.{newest}
 use Rattle.lt_tables.specs.Placement.{entry_of}
 use Rattle.lt_alloc.specs.Extents.{is_free, free_count}
@@ -44,22 +44,6 @@ use Rattle.lt_store.proofs.CommitLaws.{kept-fits, open-logs}
 use Rattle.lt_store.proofs.CountLaws.{apart-few}
 use Rattle.lt_store.proofs.MomentLaws.{open-names, open-same}
 use Rattle.lt_store.proofs.SameLaws.{same-names}
-
--- where a flush is due there are items
-pub due-some : (n : Named) (log : LogState) (memory : List Item) (taken : List Bool) (filters writes : ℕ) → IsKept n log memory taken filters writes → IsTrue (length log.pending == 0 && (log.slots == n.geometry.slots || nat_lt 200000 (total_cost memory))) → 0 < length memory
-due-some n log memory taken filters writes k due =
-    decide (log.slots == n.geometry.slots) refl (and_parts (length log.pending == 0) (log.slots == n.geometry.slots || nat_lt 200000 (total_cost memory)) due).1
-  where
-    some_slots : 1 ≤ n.geometry.slots
-    some_slots = leb-true 1 n.geometry.slots (and_parts _ (nat_le 1 n.geometry.slots) (and_parts _ (nat_le n.geometry.slots 512) k.manifest.geometry).0).1
-
-    costly : (xs : List Item) → nat_lt 200000 (total_cost xs) ≡ true → 0 < length xs
-    costly [] much = absurd (true≢false (sym much))
-    costly (x ∷ xs) much = omega arith
-
-    decide : (b : Bool) → (log.slots == n.geometry.slots) ≡ b → (b || nat_lt 200000 (total_cost memory)) ≡ true → 0 < length memory
-    decide true full much = let all : log.slots ≡ n.geometry.slots = eqb-true log.slots n.geometry.slots full in let enough = k.enough in omega (arith, some_slots, all, enough)
-    decide false full much = costly memory much
 
 -- ---- what is free and what is named are all extents
 

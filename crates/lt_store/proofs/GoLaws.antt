@@ -8,13 +8,12 @@ use Rattle.lt_device.proofs.Runs.{begins, joins, weakens}
 use Rattle.lt_format.specs.declared.geometry.Geometry.{Geometry}
 use Rattle.lt_language.specs.Machine.{State, nothing_yet}
 use Rattle.lt_image.specs.Standing.{IsPrefix, after_writes}
-use Rattle.lt_image.proofs.KeptLaws.{writes-joined}
-use Rattle.lt_image.proofs.PrefixLaws.{prefix-fewer, prefix-later, prefix-longer}
+use Rattle.lt_image.proofs.KeptLaws.{writes-joined, no_writes}
+use Rattle.lt_image.proofs.PrefixLaws.{prefix-fewer, prefix-later, prefix-longer, prefix-none}
 use Rattle.lt_store.specs.Open.{IsOpen, IsRootOnly, Rests, StoreView, state_of}
 use Rattle.lt_store.specs.Going.{Survives, Goes, appended}
 use Rattle.lt_store.specs.Making.{IsFresh}
 use Rattle.lt_store.specs.Flushing.{Stays}
-use Rattle.lt_store.proofs.GroupLaws.{after_none, prefix-none}
 
 -- nothing happened
 pub goes-none : (v : StoreView) (d : State) (s : told.State) → IsOpen v d s → Goes v [] v d s s
@@ -22,13 +21,9 @@ goes-none v d s o = record {
   sure = 0;
   within = omega arith;
   pending = sym (append-nil v.log.pending);
-  opened = subst (λ e. IsOpen v e s) (sym (after_none d)) o;
+  opened = subst (λ e. IsOpen v e s) (sym (no_writes d)) o;
   survives = begins s (λ left may. prefix-none left d (v.log.pending ++ []) (o.rest.each left may));
 }
-
--- each image stands for the state: then it has a prefix
-pub stays-survives : (v : StoreView) (accepted : List Item) (d : State) (old new : told.State) → Stays d old new → Survives v accepted d old new
-stays-survives v accepted d old new run = weakens run (λ left stands. prefix-none left d (v.log.pending ++ accepted) stands)
 
 -- a call that keeps what is durable, behind one that made some writes durable
 pub goes-stays : (v : StoreView) (accepted : List Item) (w x : StoreView) (d : State) (old mid new : told.State) (g : Goes v accepted w d old mid) → x.log.pending ≡ w.log.pending

@@ -2,7 +2,6 @@
 use Rattle.std.proofs.Common.{◌≡◌, ⊎_elim, inl, inr, ℕ, zero, suc, ◌+◌, ◌<◌, refl, sym, ap, subst, ◌∙◌, List, [], ◌∷◌, ◌++◌, length, take, Some, None, Ok, arith, append-nil, length-append}
 use Rattle.std.specs.Prelude.{IsTrue, slice_index_or}
 use Rattle.std.specs.List.{AllByRecursion}
-use Rattle.std.proofs.lemmas.List.Concat.{flat_map-append}
 use Rattle.lt_terms.specs.Bytes.{Image, block_at}
 use Rattle.lt_terms.specs.Items.{Item}
 use Rattle.lt_device.specs.Image.{SameOutside}
@@ -23,7 +22,7 @@ use Rattle.lt_image.specs.After.{Keeps, SameExtent}
 use Rattle.lt_image.specs.Opening.{Opened, open_image}
 use Rattle.lt_image.specs.Standing.{Stands, is_free_block, after_writes, IsPrefix}
 use Rattle.lt_image.specs.Versions.{extent_in}
-use Rattle.lt_image.proofs.KeptLaws.{log-grows}
+use Rattle.lt_image.proofs.KeptLaws.{log-grows, no_writes}
 use Rattle.lt_image.proofs.OpenLaws.{is-opens}
 use Rattle.lt_store.specs.Building.{KeepsFilter}
 use Rattle.lt_store.specs.Committing.{StandsForEither, committed, committed_log}
@@ -31,13 +30,12 @@ use Rattle.lt_store.specs.Open.{IsOpen, StoreView, root_pile}
 use Rattle.lt_store.proofs.SameLaws.{same-names, same-log, same-filters}
 use Rattle.lt_store.proofs.MomentLaws.{open-names, open-same, open-from, sure-agrees}
 use Rattle.lt_store.proofs.FlushLaws.{Fits, each_all}
-
-pub items_in-more : (groups : List (List Item)) (group : List Item) → items_in (groups ++ group ∷ []) ≡ items_in groups ++ group
-items_in-more groups group = flat_map-append (λ (items : List Item). items) groups (group ∷ []) ∙ ap (λ xs. items_in groups ++ xs) (append-nil group)
+use Rattle.lt_image.proofs.PrefixLaws.{prefix-none}
+use Rattle.lt_redo.proofs.OpeningLaws.{items_in-push}
 
 groups_with-items : (groups : List (List Item)) (pending : List Item) → items_in (groups_with groups pending) ≡ items_in groups ++ pending
 groups_with-items groups [] = sym (append-nil (items_in groups))
-groups_with-items groups (item ∷ items) = items_in-more groups (item ∷ items)
+groups_with-items groups (item ∷ items) = items_in-push groups (item ∷ items)
 
 groups_with-length : (groups : List (List Item)) (slots : ℕ) (pending : List Item) → slots ≡ length groups → slots_with slots pending ≡ length (groups_with groups pending)
 groups_with-length groups slots [] same = same
@@ -81,16 +79,9 @@ module _ (v : StoreView) (d : State) (old : told.State) (o : IsOpen v d old) (fi
       let keeps : Keeps b p image left = record { geometry = refl; manifest = refl; kept = each_all (SameExtent g image left) (named v.named.manifest.trie) (λ x c small. behind-slot g area v.log.slots image left fits.area_small within same x c) } in
       log-grows image left b p more d opens_b opens_p keeps items (o.rest.each image may)
 
-pub after_none : (d : State) → after_writes d [] ≡ d
-after_none d = let same : d.writes + 0 ≡ d.writes = omega arith in λ i. record { map = d.map; writes = same i }
-
 pub take-whole : (xs : List Item) → take (length xs) (xs ++ []) ≡ xs
 take-whole [] = refl
 take-whole (x ∷ xs) = ap (λ ys. x ∷ ys) (take-whole xs)
-
--- none of these writes, and all of them
-pub prefix-none : (image : Image) (d : State) (writes : List Item) → Stands image d → IsPrefix image d writes 0
-prefix-none image d writes stands = record { count = 0; at_least = omega arith; at_most = omega arith; stands = subst (Stands image) (sym (after_none d)) stands }
 
 prefix-all : (image : Image) (d : State) (writes : List Item) → Stands image (after_writes d writes) → IsPrefix image d (writes ++ []) 0
 prefix-all image d writes stands = record {
@@ -111,10 +102,10 @@ module _ (v : StoreView) (d : State) (old new : told.State) (o : IsOpen v d old)
   -- at each moment the pending writes are there or not
   pub group-whole : Leaves (StandsForEither d (after_writes d v.log.pending)) old new
   group-whole = weakens (both run inside_at) (λ left has. ⊎_elim
-      (λ as_before. inl (subst (Stands left) (after_none d)
+      (λ as_before. inl (subst (Stands left) (no_writes d)
       (grown v d old o fits within has.1.image left o.groups [] has.1.was has.1.same (log_at left o.groups as_before) (sym (append-nil (items_in o.groups))))))
       (λ longer. inr
-      (grown v d old o fits within has.1.image left (o.groups ++ v.log.pending ∷ []) v.log.pending has.1.was has.1.same (log_at left (o.groups ++ v.log.pending ∷ []) longer) (items_in-more o.groups v.log.pending)))
+      (grown v d old o fits within has.1.image left (o.groups ++ v.log.pending ∷ []) v.log.pending has.1.was has.1.same (log_at left (o.groups ++ v.log.pending ∷ []) longer) (items_in-push o.groups v.log.pending)))
       has.0.either)
 
   pub group-survives : Leaves (λ left. IsPrefix left d (v.log.pending ++ []) 0) old new
@@ -153,4 +144,4 @@ idle-log log idle =
 pub idle-open : (v : StoreView) (d : State) (s : told.State) → v.log.pending ≡ [] → IsOpen v d s → IsOpen (committed v) (after_writes d v.log.pending) s
 idle-open v d s idle o =
     let there : IsOpen (committed v) d s = subst (λ (log : LogState). IsOpen (record v { log = log }) d s) (idle-log v.log idle) o in
-    subst (λ (e : State). IsOpen (committed v) e s) (sym (after_none d) ∙ ap (after_writes d) (sym idle)) there
+    subst (λ (e : State). IsOpen (committed v) e s) (sym (no_writes d) ∙ ap (after_writes d) (sym idle)) there

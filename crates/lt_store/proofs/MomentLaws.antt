@@ -1,5 +1,5 @@
 -- An open store from call to call of its device.
-use Rattle.std.proofs.Common.{◌≡◌, ℕ, refl, sym, subst, Bool, List, ◌++◌, length}
+use Rattle.std.proofs.Common.{◌≡◌, ℕ, refl, sym, subst, Bool, List, ◌++◌, length, Ok}
 use Rattle.std.specs.Prelude.{IsTrue}
 use Rattle.std.specs.List.{AllByRecursion}
 use Rattle.lt_terms.specs.Bytes.{Image}
@@ -20,6 +20,8 @@ use Rattle.lt_store.specs.Building.{KeepsFilter}
 use Rattle.lt_store.specs.Flushing.{Stays}
 use Rattle.lt_store.specs.Open.{IsOpen, IsRootOnly, StoreView, root_pile}
 use Rattle.lt_store.proofs.SameLaws.{Same, same-trans, same-names, same-stands, same-log, same-filters, same-free}
+use Rattle.lt_image.proofs.OpenLaws.{is-opens}
+use Rattle.lt_image.specs.Opening.{open_image}
 
 -- what an open store has of one image
 pub record IsReady (v : StoreView) (d : State) (groups : List (List Item)) (image : Image) : Type 0 where
@@ -113,3 +115,10 @@ open-alike v d s up taken o = record {
   filters = o.filters;
   root_only = o.root_only;
 }
+
+-- what the image of an open store opens as
+pub open-image : (v : StoreView) (d : State) (s : told.State) (o : IsOpen v d s) → v.log.area ≡ v.named.manifest.header.log_area → v.log.writes ≡ v.named.manifest.header.writes → open_image o.rest.image ≡ Ok (record { named = v.named; groups = o.groups })
+open-image v d s o area start =
+    let log = subst (λ k. HasLog v.named.geometry k v.log.writes o.groups o.rest.image) area o.log in
+    let from_start = subst (λ w. HasLog v.named.geometry v.named.manifest.header.log_area w o.groups o.rest.image) start log in
+    is-opens o.rest.image (record { named = v.named; groups = o.groups }) (open-names v d s o).read from_start.read

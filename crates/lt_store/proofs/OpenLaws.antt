@@ -59,7 +59,7 @@ opens image n groups is read =
 
 -- ---- at rest
 
-not_both : {A : Type 0} (r : Result A ℕ) (a : A) (b : ℕ) → r ≡ Ok a → r ≡ Err b → ⊥
+pub not_both : {A : Type 0} (r : Result A ℕ) (a : A) (b : ℕ) → r ≡ Ok a → r ≡ Err b → ⊥
 not_both r a b ok err = cc
 
 -- on a device at rest nothing is damaged

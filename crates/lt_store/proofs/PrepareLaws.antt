@@ -1,16 +1,16 @@
 -- What a flush has before its manifest is committed.
-use Rattle.std.proofs.Common.{◌≡◌, ℕ, zero, suc, ◌+◌, ◌<◌, ◌≤◌, refl, subst, Bool, true, false, not, ◌&&◌, ◌||◌, List, [], ◌∷◌, length, Some, arith, true≢false}
+use Rattle.std.proofs.Common.{◌≡◌, ℕ, zero, suc, ◌+◌, ◌<◌, ◌≤◌, refl, subst, Bool, true, false, not, ◌&&◌, ◌||◌, List, [], ◌∷◌, length, Some, arith}
 use Rattle.std.specs.Prelude.{nat_le, nat_lt, ◌==◌}
 use Rattle.std.specs.List.{AllByRecursion, AllZip, list_all}
-use Rattle.std.proofs.lemmas.Bool.{and_from, le-leb, lt-ltb, eq-eqb}
+use Rattle.std.proofs.lemmas.Bool.{and_from, le-leb, lt-ltb, eq-eqb, not_from_false}
 use Rattle.lt_terms.specs.Bytes.{Image}
 use Rattle.lt_terms.specs.Items.{Item}
 use Rattle.lt_device.specs.State as told
 use Rattle.lt_device.specs.Moments.{MayLeave, IsNear, ConfinedTo}
-use Rattle.lt_device.proofs.Runs.{joins, begins}
+use Rattle.lt_device.proofs.Runs.{joins}
 use Rattle.lt_language.specs.Machine.{State}
 use Rattle.lt_tables.specs.Cut.{cut}
-use Rattle.lt_tables.specs.Filter.{is_in}
+use Rattle.lt_terms.specs.Numbers.{is_in}
 use Rattle.lt_tables.specs.Merge.{newest}
 use Rattle.lt_format.specs.declared.geometry.Geometry.{Geometry}
 use Rattle.lt_format.specs.declared.header.Header.{Header}
@@ -42,10 +42,6 @@ each-in : (test : ℕ → Bool) (xs : List ℕ) → ((x : ℕ) → is_in x xs �
 each-in test [] each = refl
 each-in test (x ∷ xs) each = and_from (test x) (list_all test xs) (each x (is_in-first x xs)) (each-in test xs (λ y there. each y (is_in-behind y x xs there)))
 
-not_false : (b : Bool) → b ≡ false → not b ≡ true
-not_false true is = absurd (true≢false is)
-not_false false is = refl
-
 pub free-below : (n : Named) (numbers : List ℕ) (limit : ℕ) → AreFree n numbers → limit ≡ n.manifest.header.extents → all_below limit numbers ≡ true
 free-below n numbers limit free is = each-in (λ x. nat_lt x limit) numbers (λ x there. lt-ltb x limit (let below = free.below x there in omega arith))
 
@@ -56,7 +52,7 @@ may-flush n numbers header free distinct some few extents areas writes =
     let trie : Trie = n.manifest.trie in
     let new : are_new 65536 trie numbers ≡ true = and_from (all_distinct numbers && all_below 65536 numbers) (list_all (λ x. not (is_in x (named trie))) numbers)
     (and_from (all_distinct numbers) (all_below 65536 numbers) distinct (each-in (λ x. nat_lt x 65536) numbers (λ x there. lt-ltb x 65536 (let below = free.below x there in omega arith))))
-    (each-in (λ x. not (is_in x (named trie))) numbers (λ x there. not_false _ (free.unnamed x there))) in
+    (each-in (λ x. not (is_in x (named trie))) numbers (λ x there. not_from_false _ (free.unnamed x there))) in
     let fit : fits n.geometry.levels trie (flush numbers) ≡ true = and_from (are_new 65536 trie numbers) (nat_le 1 (length numbers)) new (le-leb 1 (length numbers) some) in
     let below : all_below n.manifest.header.extents numbers ≡ true = free-below n numbers n.manifest.header.extents free refl in
     let moves : log_moves (flush numbers) n.manifest.header header ≡ true = and_from (header.log_area + n.manifest.header.log_area == 1) (nat_le n.manifest.header.writes header.writes) (eq-eqb _ 1 areas) (le-leb _ _ writes) in
@@ -110,6 +106,3 @@ prepared v d numbers parts kept old new o p small run empty built are =
 -- one call that keeps what the images stand for behind another
 pub stays-joins : (d : State) (old mid new : told.State) → Stays d mid new → Stays d old mid → Stays d old new
 stays-joins d old mid new then first = joins then first (λ left stands. stands)
-
-pub stays-none : (v : StoreView) (d : State) (s : told.State) → IsOpen v d s → Stays d s s
-stays-none v d s o = begins s (λ left may. o.rest.each left may)

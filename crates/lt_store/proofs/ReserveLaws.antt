@@ -1,11 +1,11 @@
 -- Extents that a flush reserves, and the facts in memory after it.
-use Rattle.std.proofs.Common.{◌≡◌, ◌≢◌, ℕ, zero, suc, ◌+◌, ◌<◌, ◌≤◌, ◌^◌, refl, sym, ap, subst, ◌∙◌, List, [], ◌∷◌, length, get_or, Bool, true, false, not, ◌&&◌, ◌||◌, arith}
+use Rattle.std.proofs.Common.{◌≡◌, ◌≢◌, ℕ, suc, ◌+◌, ◌<◌, ◌≤◌, ◌^◌, refl, sym, ap, subst, ◌∙◌, List, [], ◌∷◌, length, get_or, Bool, true, false, not, ◌&&◌, ◌||◌, arith}
 use Rattle.std.specs.Prelude.{◌==◌, nat_le, nat_lt}
 use Rattle.std.proofs.lemmas.Bool.{eqb-true, true≢false, and_from, and_parts, leb-true, ltb-true, lt-ltb}
 use Rattle.lt_terms.specs.Items.{Item, total_cost}
 use Rattle.lt_bucket.proofs.BucketPages.{count_small}
-use Rattle.lt_tables.specs.Filter.{is_in}
-use Rattle.lt_alloc.specs.Extents.{is_free, is_among, Reserves}
+use Rattle.lt_terms.specs.Numbers.{is_in}
+use Rattle.lt_alloc.specs.Extents.{is_free, Reserves}
 use Rattle.lt_format.specs.declared.header.Header.{Header}
 use Rattle.lt_format.specs.Changes.{flush, after_change}
 use Rattle.lt_format.specs.Log.{log_room}
@@ -19,6 +19,7 @@ use Rattle.lt_manifest.specs.Opened as opened
 use Rattle.lt_redo.specs.LogState.{LogState, other_area}
 use Rattle.lt_store.specs.Flushing.{AreFree, flushed_log}
 use Rattle.lt_store.specs.Kept.{IsKept}
+use Rattle.lt_alloc.proofs.StackLaws.{is_free-within}
 
 -- ---- numbers in a list
 
@@ -43,11 +44,6 @@ pairs-distinct (x ∷ xs) apart = and_from (not (is_in x xs)) (all_distinct xs) 
 
 -- ---- what is reserved
 
-free_below : (taken : List Bool) (x : ℕ) → is_free taken x ≡ true → x < length taken
-free_below [] x free = absurd (true≢false (sym free))
-free_below (b ∷ bs) zero free = omega arith
-free_below (b ∷ bs) (suc x) free = let rest = free_below bs x free in omega (arith, rest)
-
 not_true : (b : Bool) → not b ≡ true → b ≡ false
 not_true true is = absurd (true≢false (sym is))
 not_true false is = refl
@@ -63,34 +59,27 @@ module _ (n : Named) (log : LogState) (memory : List Item) (taken now : List Boo
 
   pub reserved-free : AreFree n numbers
   reserved-free = record {
-    below = λ x there. let below = free_below taken x (was_free x there) in let size = k.extents in omega (arith, below, size);
+    below = λ x there. let below = is_free-within taken x (was_free x there) in let size = k.extents in omega (arith, below, size);
     unnamed = λ x there.
         let free = was_free x there in
-        let below : x < n.manifest.header.extents = let b = free_below taken x free in let size = k.extents in omega (arith, b, size) in
+        let below : x < n.manifest.header.extents = let b = is_free-within taken x free in let size = k.extents in omega (arith, b, size) in
         not_true (is_in x (named n.manifest.trie)) (sym (k.free x below) ∙ free);
   }
 
   pub reserved-distinct : all_distinct numbers ≡ true
   reserved-distinct = subst (λ xs. all_distinct xs ≡ true) (sym r.appended) (pairs-distinct r.numbers (λ i j less below. r.differ i j 0 less below))
 
-  pub reserved-taken : (x : ℕ) → is_in x numbers ≡ true → is_free now x ≡ false
-  reserved-taken x there = r.others_stay x ∙ ap (λ b. is_free taken x && not b) (subst (λ xs. is_in x xs ≡ true) r.appended there) ∙ right (is_free taken x)
-    where
-      right : (b : Bool) → (b && false) ≡ false
-      right true = refl
-      right false = refl
-
   pub reserved-below : (x : ℕ) → is_in x numbers ≡ true → x < length now
-  reserved-below x there = let below = free_below taken x (was_free x there) in let size = r.same_extents in omega (arith, below, size)
+  reserved-below x there = let below = is_free-within taken x (was_free x there) in let size = r.same_extents in omega (arith, below, size)
 
   -- what is given back is free as before
   pub given-free : (given : List Bool) → ((x : ℕ) → x < length now → is_free given x ≡ (is_free now x || is_in x numbers)) → (x : ℕ) → x < length taken → is_free given x ≡ is_free taken x
   given-free given back x small = back x (let size = r.same_extents in omega (arith, small, size)) ∙ ap (λ b. b || is_in x numbers) (r.others_stay x) ∙ decide (is_in x numbers) refl
     where
-      same : is_among x r.numbers ≡ is_in x numbers
+      same : is_in x r.numbers ≡ is_in x numbers
       same = ap (is_in x) (sym r.appended)
 
-      decide : (b : Bool) → is_in x numbers ≡ b → ((is_free taken x && not (is_among x r.numbers)) || is_in x numbers) ≡ is_free taken x
+      decide : (b : Bool) → is_in x numbers ≡ b → ((is_free taken x && not (is_in x r.numbers)) || is_in x numbers) ≡ is_free taken x
       decide true is = rw (same, is) (right (is_free taken x) ∙ sym (was_free x is))
         where
           right : (b : Bool) → ((b && false) || true) ≡ true
@@ -159,7 +148,7 @@ flushed-kept n m log memory taken now filters writes count numbers header k r so
       free = λ x small.
           let within : x < n.manifest.header.extents = omega (arith, small, head_extents) in
           let there : is_in x (named m.manifest.trie) ≡ (is_in x (named n.manifest.trie) || is_in x numbers) = ap (λ (t : Trie). is_in x (named t)) trie ∙ named-flush n.manifest.trie numbers x k.manifest.trie.rising some in
-          r.others_stay x ∙ ap (λ b. b && not (is_among x r.numbers)) (k.free x within) ∙ both (is_in x (named n.manifest.trie)) (is_among x r.numbers)
+          r.others_stay x ∙ ap (λ b. b && not (is_in x r.numbers)) (k.free x within) ∙ both (is_in x (named n.manifest.trie)) (is_in x r.numbers)
           ∙ ap (λ b. not (is_in x (named n.manifest.trie) || b)) (ap (is_in x) (sym r.appended)) ∙ ap not (sym there);
       filters_len = filled ∙ sym head_extents;
     }

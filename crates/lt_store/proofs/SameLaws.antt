@@ -6,7 +6,7 @@ use Rattle.lt_terms.specs.Bytes.{Image, block_at}
 use Rattle.lt_terms.specs.Items.{Item}
 use Rattle.lt_device.specs.Image.{SameOutside}
 use Rattle.lt_language.specs.Machine.{State}
-use Rattle.lt_tables.specs.Filter.{is_in}
+use Rattle.lt_terms.specs.Numbers.{is_in}
 use Rattle.lt_format.specs.declared.geometry.Geometry.{Geometry}
 use Rattle.lt_format.specs.Layout.{extent_block, log_gate}
 use Rattle.lt_format.specs.Naming.{Named}
@@ -26,13 +26,6 @@ pub record Same (m : Named) (a b : Image) : Type 0 where
   pub size : length b ≡ length a
   pub low : (n : ℕ) → n < 868 → block_at b n ≡ block_at a n
   pub named : SameNamed m a b
-
-extents-refl : (g : Geometry) (a : Image) (xs : List ℕ) → SameExtents g a a xs
-extents-refl g a [] = tt
-extents-refl g a (x ∷ xs) = (λ c small. refl, extents-refl g a xs)
-
-pub same-refl : (m : Named) (a : Image) → Same m a a
-same-refl m a = record { size = refl; low = λ n small. refl; named = record { log = λ n low high. refl; kept = extents-refl m.geometry a (named m.manifest.trie) } }
 
 extents-trans : (g : Geometry) (a b c : Image) (xs : List ℕ) → SameExtents g a b xs → SameExtents g b c xs → SameExtents g a c xs
 extents-trans g a b c [] one two = tt

@@ -11,7 +11,7 @@ use Rattle.lt_format.specs.declared.geometry.Geometry.{Geometry}
 use Rattle.lt_format.specs.Layout.{extent_block}
 use Rattle.lt_htable.specs.declared.faults.LookFault.{LookFault}
 use Rattle.lt_htable.specs.declared.faults.LookFault.TheVariants.{Device, Damaged}
-use Rattle.lt_htable.specs.Reading.{AnswersLook, IsLookedUp, at_last, at_home, target_of}
+use Rattle.lt_htable.specs.Reading.{IsLookedUp, at_last, at_home, target_of}
 use Rattle.lt_store.specs.declared.getting.Version.{Version}
 use Rattle.lt_store.specs.Getting.{AnswersSeen, IsSeen, IsVersion, before_older, may_hold, seen, seen_at, seen_in, seen_of, value_len}
 use Rattle.lt_store.specs.Open.{StoreView, root_pile}
@@ -35,11 +35,6 @@ looked-seen shown image first key answer told l =
 device-seen : (answer : Result (Option Item) LookFault) (old new : List ℕ) → IsSeen answer (Err Device) old new
 device-seen (Ok item) old new = tt
 device-seen (Err fault) old new = tt
-
-pub fault-seen : (shown : Option Image) (image : Image) (first : ℕ) (key : List ℕ) (fault : LookFault) (old new : List ℕ) → shown ≡ Some image → AnswersLook shown first key (Err fault) → IsSeen (seen_in image first key) (Err fault) old new
-fault-seen shown image first key Device old new told looked = device-seen (seen_in image first key) old new
-fault-seen shown image first key (Damaged b) old new told looked =
-    subst (λ (answer : Result (Option Item) LookFault). IsSeen answer (Err (Damaged b)) old new) (looked-seen shown image first key (Err (Damaged b)) told looked) refl
 
 pub found-seen : (shown : Option Image) (image : Image) (first : ℕ) (key : List ℕ) (item : Option Item) (version : Option Version) (old new : List ℕ) → shown ≡ Some image → IsLookedUp shown first key (Ok item) → IsVersion item version old new → IsSeen (seen_in image first key) (Ok version) old new
 found-seen shown image first key item version old new told looked is =

@@ -1,5 +1,5 @@
 -- The answers to a write.
-use Rattle.std.proofs.Common.{◌≡◌, ℕ, ◌+◌, ◌≤◌, refl, ap, subst, Bool, true, false, Result, Ok}
+use Rattle.std.proofs.Common.{◌≡◌, ℕ, ◌+◌, ◌≤◌, ap, subst, Result, Ok}
 use Rattle.std.specs.Prelude.{nat_le, if◌then◌else◌}
 use Rattle.std.proofs.lemmas.Bool.{and_from, le-leb}
 use Rattle.lt_terms.specs.Items.{total_cost}
@@ -21,8 +21,3 @@ full-alike P a b needed free same p =
 -- with room for the item, and few bytes in the memory table, the store is ready as it is
 pub readied-same : (v : StoreView) (cost : ℕ) → total_cost v.log.pending + cost ≤ group_room → total_cost v.memory ≤ 200000 → readied v cost ≡ v
 readied-same v cost room few = ap (λ b. if b then v else committed v) (and_from (nat_le (total_cost v.log.pending + cost) group_room) (nat_le (total_cost v.memory) 200000) (le-leb _ _ room) (le-leb _ _ few))
-
--- a test that cannot be false
-pub not-false : (b : Bool) → (b ≡ false → ⊥) → b ≡ true
-not-false true never = refl
-not-false false never = absurd (never refl)

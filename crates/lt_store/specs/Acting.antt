@@ -1,9 +1,9 @@
 -- Events of a store, and the steps of the map machine that they are.
 use Rattle.std.specs.Prelude.{◌≡◌, ℕ, Bool, true, false, List, [], take, Option, Some, None, Result, Ok, Err, IsTrue}
-use Rattle.lt_terms.specs.Items.{Item, is_key, is_valid}
+use Rattle.lt_terms.specs.Items.{Item, is_key, is_valid, put_of, delete_of}
 use Rattle.lt_language.specs.Commands as commands
 use Rattle.lt_language.specs.Commands.{Command}
-use Rattle.lt_language.specs.Machine.{State, Step, put_of, delete_of}
+use Rattle.lt_language.specs.Machine.{State, Step}
 use Rattle.lt_language.specs.Replies as replies
 use Rattle.lt_language.specs.Replies.{Reply}
 use Rattle.lt_store.specs.declared.acting.EventView.{EventView}

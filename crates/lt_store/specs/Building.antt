@@ -3,7 +3,7 @@ use Rattle.std.specs.Prelude.{◌≡◌, ℕ, ◌+◌, ◌<◌, ◌≤◌, List,
 use Rattle.lt_terms.specs.Bytes.{Image}
 use Rattle.lt_terms.specs.Items.{Item}
 use Rattle.lt_tables.specs.Cut.{IsTable}
-use Rattle.lt_tables.specs.Filter.{is_in}
+use Rattle.lt_terms.specs.Numbers.{is_in}
 use Rattle.lt_tables.specs.Merge.{newest}
 use Rattle.lt_tables.specs.Table.{IsPlaced}
 use Rattle.lt_format.specs.declared.geometry.Geometry.{Geometry}

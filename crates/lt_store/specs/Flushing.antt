@@ -4,7 +4,7 @@ use Rattle.std.specs.List.{AllByRecursion}
 use Rattle.lt_device.specs.Moments.{Leaves, MayLeave}
 use Rattle.lt_device.specs.State as told
 use Rattle.lt_language.specs.Machine.{State}
-use Rattle.lt_tables.specs.Filter.{is_in}
+use Rattle.lt_terms.specs.Numbers.{is_in}
 use Rattle.lt_alloc.specs.declared.extents.Short.{Short}
 use Rattle.lt_alloc.specs.Extents.{free_count}
 use Rattle.lt_tables.specs.Cut.{cut, table_total}

@@ -1,12 +1,12 @@
 -- What a get finds, and where it looks.
 use Rattle.std.specs.Prelude.{◌≡◌, ℕ, ◌+◌, ◌<◌, Bool, true, false, List, [], ◌∷◌, Option, Some, None, Result, Ok, Err, length, take, drop, count_by, slice_index, slice_index_or, IsTrue, if◌then◌else◌}
 use Rattle.std.specs.Option.{option_and_then, option_map_or, is_some}
-use Rattle.lt_terms.specs.Bytes.{Image, block_at}
+use Rattle.lt_terms.specs.Bytes.{Image, block_at, filled}
 use Rattle.lt_terms.specs.Items.{Item}
 use Rattle.lt_terms.specs.Hashes.{home_column}
-use Rattle.lt_page.specs.Page.{filled}
+use Rattle.lt_terms.specs.Numbers.{is_in}
 use Rattle.lt_tables.specs.Bucket.{look_on}
-use Rattle.lt_tables.specs.Filter.{covers, is_in}
+use Rattle.lt_tables.specs.Filter.{covers}
 use Rattle.lt_tables.specs.Merge.{newest, newest_of, is_put, value_of}
 use Rattle.lt_tables.specs.Table.{IsPlaced}
 use Rattle.lt_format.specs.declared.geometry.Geometry.{Geometry}

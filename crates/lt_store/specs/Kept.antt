@@ -1,7 +1,7 @@
 -- What a store keeps in memory, and the facts of it that hold whatever its device tells.
 use Rattle.std.specs.Prelude.{◌≡◌, ℕ, ◌+◌, ◌-◌, ◌<◌, ◌≤◌, Bool, not, List, ◌++◌, length, take, IsTrue}
 use Rattle.lt_terms.specs.Items.{Item, total_cost}
-use Rattle.lt_tables.specs.Filter.{is_in}
+use Rattle.lt_terms.specs.Numbers.{is_in}
 use Rattle.lt_alloc.specs.Extents.{is_free}
 use Rattle.lt_format.specs.Log.{group_room, log_fits}
 use Rattle.lt_format.specs.Naming.{Named}

@@ -4,11 +4,10 @@ ghost use Rattle.std.specs.Prelude.{◌≡◌, false, ℕ, ◌+◌, ◌<◌, ◌
 ghost use Rattle.std.specs.List.{AllZip};
 ghost use Rattle.lt_terms.specs.Bytes.{Image};
 ghost use Rattle.lt_terms.specs.Causes.{Rose};
-ghost use Rattle.lt_device.specs.Moments.{ConfinedTo};
+ghost use Rattle.lt_device.specs.Moments.{ConfinedTo, ShowsSameOutside};
 ghost use Rattle.lt_format.specs.Layout.{blocks_needed};
 ghost use Rattle.lt_format.specs.Trie.{all_distinct, all_below};
-ghost use Rattle.lt_htable.specs.Building.{ShowsSameOutside};
-ghost use Rattle.lt_tables.specs.Filter.{is_in};
+ghost use Rattle.lt_terms.specs.Numbers.{is_in};
 ghost use Rattle.lt_store.specs.Building.{IsPart, InExtents, HasTable};
 
 use lt_bloom::FilterPage;

@@ -16,7 +16,7 @@ ghost use Rattle.lt_store.specs.Building.{IsPart};
 ghost use Rattle.lt_store.specs.Flushing.{AreFree, HasTables, IsFlushed, IsPrepared, IsShort, SomeKept, Stays, flush_header, flushed};
 ghost use Rattle.lt_alloc.specs.declared.extents.Short.{Short};
 ghost use Rattle.lt_alloc.specs.Extents.{is_free};
-ghost use Rattle.lt_tables.specs.Filter.{is_in};
+ghost use Rattle.lt_terms.specs.Numbers.{is_in};
 ghost use Rattle.lt_store.specs.Kept.{IsKept};
 ghost use Rattle.lt_store.specs.Open.{IsOpen, IsRooted, blocks_of, extents_of};
 ghost use Rattle.lt_store.specs.View.{view_of};

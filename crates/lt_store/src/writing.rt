@@ -3,11 +3,11 @@
 ghost use Rattle.std.specs.Prelude.{◌≡◌, ◌↔◌, ℕ, ◌+◌, ◌*◌, ◌<◌, ◌≤◌, ◌≢◌, true, false, List, [], Ok, Some, None, IfOk, IsErrOf, IsOk, IsTrue, OnErr, OnOk, length};
 ghost use Rattle.lt_terms.specs.Bytes.{Image};
 ghost use Rattle.lt_terms.specs.Causes.{HasCause, Rose};
-ghost use Rattle.lt_terms.specs.Items.{is_key, is_valid, item_cost, total_cost};
+ghost use Rattle.lt_terms.specs.Items.{is_key, is_valid, item_cost, total_cost, put_of, delete_of};
 ghost use Rattle.lt_alloc.specs.declared.extents.Short.{Short};
 ghost use Rattle.lt_device.specs.Moments.{Leaves, MayLeave};
 ghost use Rattle.lt_item.specs.Views.{item_of};
-ghost use Rattle.lt_language.specs.Machine.{State, delete_of, most_writes, put_of};
+ghost use Rattle.lt_language.specs.Machine.{State, most_writes};
 ghost use Rattle.lt_format.specs.Log.{group_room};
 ghost use Rattle.lt_store.specs.Flushing.{IsFlushed, Stays};
 ghost use Rattle.lt_store.specs.Going.{Goes, Survives, appended};

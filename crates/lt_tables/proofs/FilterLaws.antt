@@ -12,7 +12,9 @@ use Rattle.std.specs.Prelude.{◌==◌, ◌&&◌, ◌||◌}
 use Rattle.std.specs.Int.{bit_at}
 use Rattle.lt_terms.specs.Bytes.{IsBlock, zero_block, zeros}
 use Rattle.lt_terms.specs.Hashes.{home_column, key_positions}
-use Rattle.lt_tables.specs.Filter.{byte_of, bytes_of_bits, filter_of, is_in, is_set, is_set_in, home_positions, filter_block, AddsPositions, HasFilters}
+use Rattle.lt_terms.specs.Numbers.{is_in}
+use Rattle.lt_tables.specs.Filter.{byte_of, bytes_of_bits, filter_of, is_set, is_set_in, home_positions, filter_block, AddsPositions, HasFilters}
+use Rattle.std.proofs.Math.Bool.{or-false}
 
 weigh : (b : Bool) (w : ℕ) → cond b w 0 ≡ w * cond b 1 0
 weigh true w = omega arith
@@ -195,17 +197,13 @@ HasFilters-nil = record {
   bits = λ c p column place. ap (λ byte. bit_at byte (7 - (512 * c + p) % 8) == 1) (get_or-replicate {A = ℕ} 4096 ((512 * c + p) / 8) 0 0 (omega arith)) ∙ ap (λ n. n == 1) (bit_at-zero (7 - (512 * c + p) % 8));
 }
 
-in_append : (p : ℕ) (xs ys : List ℕ) → is_in p (xs ++ ys) ≡ (is_in p xs || is_in p ys)
+pub in_append : (p : ℕ) (xs ys : List ℕ) → is_in p (xs ++ ys) ≡ (is_in p xs || is_in p ys)
 in_append p [] ys = refl
 in_append p (x ∷ xs) ys = ap (λ b. (x == p) || b) (in_append p xs ys) ∙ or_assoc (x == p) (is_in p xs) (is_in p ys)
   where
     or_assoc : (a b c : Bool) → (a || (b || c)) ≡ ((a || b) || c)
     or_assoc true b c = refl
     or_assoc false b c = refl
-
-or_false : (b : Bool) → (b || false) ≡ b
-or_false true = refl
-or_false false = refl
 
 positions_more : (items : List Item) (item : Item) (c p : ℕ) → is_in p (home_positions (items ++ item ∷ []) c) ≡ (is_in p (home_positions items c) || (home_column item.key == c && is_in p (key_positions item.key)))
 positions_more items item c p =
@@ -215,7 +213,7 @@ positions_more items item c p =
     ∙ ap (λ b. is_in p (home_positions items c) || b) (own (home_column item.key == c))
   where
     own : (b : Bool) → is_in p (flat_map (λ (item : Item). key_positions item.key) (cond b (item ∷ []) [])) ≡ (b && is_in p (key_positions item.key))
-    own true = in_append p (key_positions item.key) [] ∙ or_false (is_in p (key_positions item.key))
+    own true = in_append p (key_positions item.key) [] ∙ or-false (is_in p (key_positions item.key))
     own false = refl
 
 or_by : (own was : Bool) → cond own true was ≡ (was || own)
@@ -224,7 +222,7 @@ or_by true false = refl
 or_by false true = refl
 or_by false false = refl
 
-eqb_sym : (m n : ℕ) → (m == n) ≡ (n == m)
+pub eqb_sym : (m n : ℕ) → (m == n) ≡ (n == m)
 eqb_sym m n = ⊎_elim (λ (same : m ≡ n). eq-eqb m n same ∙ sym (eq-eqb n m (sym same))) (λ (other : m ≡ n → ⊥). ne_eqb m n other ∙ sym (ne_eqb n m (λ back. other (sym back)))) (cases_eq m n)
 
 pub HasFilters-more : (items : List Item) (item : Item) (old new : List ℕ) → HasFilters items old → AddsPositions old new (home_column item.key) (key_positions item.key) → HasFilters (items ++ item ∷ []) new

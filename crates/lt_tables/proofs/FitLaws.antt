@@ -1,6 +1,6 @@
 -- A placement fills no bucket past its capacity.
-use Rattle.std.proofs.Common.{◌≡◌, ℕ, zero, suc, ◌+◌, ◌-◌, ◌<◌, ◌≤◌, max, refl, sym, ap, subst, ◌∙◌, List, [], ◌∷◌, ◌++◌, map, Bool, true, false, ◌&&◌, cond, Option, Some, None, arith, leb-true, leb-false, lt-ltb, le-ltb, eqb-true, eq-eqb, ne_eqb, true≢false, inl, inr, ⊎_elim}
-use Rattle.std.specs.Prelude.{◌==◌, nat_le, nat_lt, ◌⊎◌}
+use Rattle.std.proofs.Common.{◌≡◌, ℕ, zero, suc, ◌+◌, ◌-◌, ◌<◌, ◌≤◌, max, refl, sym, ap, subst, ◌∙◌, List, [], ◌∷◌, ◌++◌, map, Bool, true, false, ◌&&◌, cond, Option, Some, None, arith, leb-true, leb-false, lt-ltb, le-ltb, eqb-true, eq-eqb, ne_eqb, true≢false, ⊎_elim}
+use Rattle.std.specs.Prelude.{◌==◌, nat_le, nat_lt}
 use Rattle.std.specs.List.{filter, find, sum_by, fold, range_with_len, AllByRecursion}
 use Rattle.std.specs.Option.{option_and_then, option_map_or, is_some, option_or}
 use Rattle.std.proofs.lemmas.List.Sums.{sum_by-cons}
@@ -14,6 +14,7 @@ use Rattle.lt_tables.specs.declared.Sending.{Sending}
 use Rattle.lt_tables.specs.declared.ColumnPlan.{ColumnPlan}
 use Rattle.lt_tables.specs.Bucket.{capacity}
 use Rattle.lt_tables.specs.Placement.{columns, homed, entries_cost, column_load, is_sender, cost_below, column_mark, sent_cost, put_by_load, by_load, senders, receivers, room, better, best, sendings, keeps_all, plan_of, plan_at}
+use Rattle.lt_terms.proofs.ItemLaws.{guard_option}
 
 -- ---- sums by recursion
 
@@ -157,10 +158,6 @@ made_more es made c to m small fits = record {
       (λ same. subst (λ j. sent_cost es c ≤ capacity - column_load es j - total (λ (s : Sending). cond (s.to == j) (sent_cost es s.from) 0) made) (eqb-true to k same) (subst (λ n. sent_cost es c ≤ n) (room_is es made to) fits)));
 }
 
-guard_option : {A : Type 0} (b : Bool) (o : Option A) (y : A) → cond b o None ≡ Some y → (b ≡ true) × (o ≡ Some y)
-guard_option true o y h = (refl, h)
-guard_option false o y h = absurd (none-some y h)
-
 -- what the sendings of one more sender are
 record IsSent (es : List Entry) (c : ℕ) (cs : List ℕ) (made last : List Sending) : Type 0 where
   to : ℕ
@@ -267,10 +264,6 @@ got es made c e = total (λ (s : Sending). cond (s.to == c) (cond (e.column == s
 
 abbrev kept : ColumnPlan → ℕ → Entry → ℕ
 kept plan c e = cond (e.column == c) (cond (sent_by plan e) 0 e.cost) 0
-
-cond_swap : (b : Bool) (n : ℕ) → cond b n 0 ≡ n ⊎ cond b n 0 ≡ 0
-cond_swap true n = inl refl
-cond_swap false n = inr refl
 
 find_from : (made : List Sending) (k : ℕ) (s : Sending) → find (λ (s : Sending). s.from == k) made ≡ Some s → s.from ≡ k
 find_from [] k s h = absurd (none-some s h)

@@ -1,12 +1,12 @@
 -- Items that are read from a page are valid.
-use Rattle.std.proofs.Common.{◌≡◌, ℕ, zero, suc, ◌+◌, refl, ap, subst, ◌∙◌, List, [], ◌∷◌, ◌++◌, length, drop, Bool, true, false, ◌&&◌, cond, Option, Some, None}
+use Rattle.std.proofs.Common.{◌≡◌, ℕ, zero, suc, ◌+◌, refl, subst, List, [], ◌∷◌, ◌++◌, length, drop, Bool, true, false, cond, Option, Some, None}
 use Rattle.std.specs.Prelude.{IsTrue, slice_index, slice_range, nat_le}
-use Rattle.std.specs.List.{AllByRecursion, flat_map, list_all}
+use Rattle.std.specs.List.{AllByRecursion, flat_map}
 use Rattle.std.specs.Option.{option_and_then, option_map, option_map_or}
 use Rattle.std.proofs.lemmas.Option.{none-some}
 use Rattle.lt_terms.specs.Bytes.{u16_at, u32_at}
 use Rattle.lt_terms.specs.Items.{Item, is_valid, kind_of_byte, cut_item, front_item, items_of}
-use Rattle.lt_terms.proofs.ItemLaws.{cut_item-cuts}
+use Rattle.lt_terms.proofs.ItemLaws.{cut_item-cuts, guard_option}
 use Rattle.lt_tables.specs.declared.Sends.{Sends}
 use Rattle.lt_tables.specs.Bucket.{Bucket, bucket_of_page_1, sends_of, items_on}
 use Rattle.lt_tables.specs.Placement.{columns}
@@ -16,13 +16,9 @@ use Rattle.lt_tables.specs.Table.{table_items}
 abbrev pub AllValid : List Item → Type 0
 AllValid items = AllByRecursion (λ (v : Item). IsTrue (is_valid v)) items
 
-guard_option : {A : Type 0} (b : Bool) (o : Option A) (y : A) → cond b o None ≡ Some y → o ≡ Some y
-guard_option true o y h = h
-guard_option false o y h = absurd (none-some y h)
-
 pub front_item-valid : (bytes : List ℕ) (found : Item × List ℕ) → front_item bytes ≡ Some found → IsTrue (is_valid found.0)
 unfolding front_item
-front_item-valid bytes found h = (cut_item-cuts (kind_of_byte (slice_index bytes 0)) (slice_index bytes 1) (u16_at bytes 2) (drop 4 bytes) found (guard_option (nat_le 4 (length bytes)) (cut_item (kind_of_byte (slice_index bytes 0)) (slice_index bytes 1) (u16_at bytes 2) (drop 4 bytes)) found h)).valid
+front_item-valid bytes found h = (cut_item-cuts (kind_of_byte (slice_index bytes 0)) (slice_index bytes 1) (u16_at bytes 2) (drop 4 bytes) found (guard_option (nat_le 4 (length bytes)) (cut_item (kind_of_byte (slice_index bytes 0)) (slice_index bytes 1) (u16_at bytes 2) (drop 4 bytes)) found h).1).valid
 
 pub items_of-valid : (n : ℕ) (bytes : List ℕ) (items : List Item) → items_of n bytes ≡ Some items → AllValid items
 unfolding items_of
@@ -66,7 +62,3 @@ AllValid-flat_map f (x ∷ xs) h = AllValid-append (f x) (flat_map f xs) (h x) (
 -- so are those of a table
 pub table_items-valid : (block : ℕ → List ℕ) → AllValid (table_items block)
 table_items-valid block = AllValid-flat_map (λ c. items_on (block c)) columns (λ c. items_on-valid (block c))
-
-pub list_all-valid : (items : List Item) → AllValid items → list_all is_valid items ≡ true
-list_all-valid [] all = refl
-list_all-valid (v ∷ items) all = ap (λ b. b && list_all is_valid items) all.0 ∙ list_all-valid items all.1

@@ -3,3 +3,4 @@ pub mod Causes
 pub mod Hashes
 pub mod Items
 pub mod Maps
+pub mod Numbers

@@ -1,7 +1,8 @@
 use Rattle.std.proofs.lemmas.Result.{on_err_weaker}
-use Rattle.lt_io.proofs.Flows.{GainsFront-longer, OnErr-always}
+use Rattle.lt_io.proofs.Flows.{GainsFront-longer}
 use Rattle.lt_cli.proofs.TellingLaws.{damage-second, damage-third}
 use Rattle.lt_cli.proofs.telling.tell_damage.Goals as goal
+use Rattle.lt_terms.proofs.CauseLaws.{OnErr-always}
 
 pub returns-in_err-write_all-clause-front : goal.returns-in_err-write_all-clause-front
 returns-in_err-write_all-clause-front g c = OnErr-always c.from_residual.result (GainsFront-longer _ _ _ _ c.in_err-write_all.ensures.err)

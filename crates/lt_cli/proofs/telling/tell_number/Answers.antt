@@ -1,8 +1,9 @@
 use Rattle.std.proofs.Common.{subst, ◌∙◌, List, ℕ}
 use Rattle.std.proofs.lemmas.Result.{on_err_weaker}
-use Rattle.lt_io.proofs.Flows.{GainsFront-longer, GainsFront-more, OnErr-always}
+use Rattle.lt_io.proofs.Flows.{GainsFront-longer, GainsFront-more}
 use Rattle.lt_io.specs.Sink.{GainsFront}
 use Rattle.lt_cli.proofs.telling.tell_number.Goals as goal
+use Rattle.lt_terms.proofs.CauseLaws.{OnErr-always}
 
 pub returns-in_err-write_all-clause-front : goal.returns-in_err-write_all-clause-front
 returns-in_err-write_all-clause-front g c = OnErr-always c.from_residual.result (GainsFront-longer _ _ _ _ c.in_err-write_all.ensures.err)

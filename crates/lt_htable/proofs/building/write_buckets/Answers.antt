@@ -1,8 +1,9 @@
 use Rattle.std.proofs.Common.{ℕ, ◌<◌, ◌∙◌, arith}
 use Rattle.lt_device.proofs.Runs.{confined_writes}
 use Rattle.lt_htable.specs.Building.{InExtent}
-use Rattle.lt_htable.proofs.WriteLaws.{buckets-more, shows-more, same_past}
+use Rattle.lt_htable.proofs.WriteLaws.{buckets-more, same_past}
 use Rattle.lt_htable.proofs.building.write_buckets.Goals as goal
+use Rattle.lt_device.proofs.Shows.{shows-writes}
 
 pub returns-in_err-write-clause-confined : goal.returns-in_err-write-clause-confined
 returns-in_err-write-clause-confined g c =
@@ -18,7 +19,7 @@ loop-column-preserved g c =
     record {
       buckets = buckets-more c.args.placement.now c.args.items.now c.args.first c.loop-column.column blocks c.block_in.result (g.D.Device.state c.loop-column.device) (g.D.Device.state c.write.new.self) c.fill_bucket.new.page c.block_in.ensures below c.write.ensures.wrote.fit c.in_ok-write.ensures.ok c.fill_bucket.ensures.bucket before.buckets;
       confined = confined_writes c.write.ensures.wrote before.confined inside;
-      others = shows-more c.write.ensures.wrote before.others inside;
+      others = shows-writes _ _ _ _ _ _ c.write.ensures.wrote inside before.others;
       no_sync = same_past c.write.ensures.wrote ∙ before.no_sync;
       size = c.write.ensures.size ∙ before.size;
       count = c.write.ensures.count ∙ before.count;

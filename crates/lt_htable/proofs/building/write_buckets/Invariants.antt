@@ -1,6 +1,6 @@
 use Rattle.std.proofs.Common.{◌≡◌, ◌≤◌}
-use Rattle.lt_device.specs.Moments.{ConfinedTo}
-use Rattle.lt_htable.specs.Building.{HasBuckets, InExtent, ShowsSameOutside}
+use Rattle.lt_device.specs.Moments.{ConfinedTo, ShowsSameOutside}
+use Rattle.lt_htable.specs.Building.{HasBuckets, InExtent}
 use Rattle.lt_htable.proofs.building.write_buckets.Given as goal
 
 -- the buckets of the columns so far

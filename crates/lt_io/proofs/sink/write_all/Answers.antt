@@ -1,6 +1,7 @@
 use Rattle.std.proofs.Common.{arith, length-take-le, length-drop, ℕ}
-use Rattle.lt_io.proofs.Flows.{Gains-written, GainsFront-stopped, GainsFront-unfinished, OnErr-always}
+use Rattle.lt_io.proofs.Flows.{Gains-written, GainsFront-stopped, GainsFront-unfinished}
 use Rattle.lt_io.proofs.sink.write_all.Goals as goal
+use Rattle.lt_terms.proofs.CauseLaws.{OnErr-always}
 
 pub returns-in_err-written-clause-err : goal.returns-in_err-written-clause-err
 returns-in_err-written-clause-err g c =

@@ -1,8 +1,7 @@
 use Rattle.std.proofs.Common.{◌≡◌, ℕ, Bool, true, false, [], ◌∷◌, refl, ap, ◌∙◌, arith}
 use Rattle.std.specs.Prelude.{if◌then◌else◌}
 use mir.Val.{bool_byte}
-use Rattle.lt_terms.specs.Bytes.{block_of}
-use Rattle.lt_page.specs.Page.{filled}
+use Rattle.lt_terms.specs.Bytes.{block_of, filled}
 use Rattle.lt_layout.proofs.FillLaws.{filled-block_of}
 use Rattle.lt_layout.proofs.gate.write_gate.Goals as goal
 

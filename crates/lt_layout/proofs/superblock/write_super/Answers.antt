@@ -1,7 +1,6 @@
 use Rattle.std.proofs.Common.{[], ◌∷◌, ◌++◌, refl, ap, ◌∙◌, arith}
 use Rattle.std.specs.Prelude.{codes}
-use Rattle.lt_terms.specs.Bytes.{u16}
-use Rattle.lt_page.specs.Page.{filled}
+use Rattle.lt_terms.specs.Bytes.{u16, filled}
 use Rattle.lt_layout.proofs.FillLaws.{filled-block_of}
 use Rattle.lt_layout.proofs.superblock.write_super.Goals as goal
 

@@ -3,8 +3,9 @@ use Rattle.lt_device.specs.State.{State}
 use Rattle.lt_device.proofs.Runs.{confined_writes}
 use Rattle.lt_format.specs.Layout.{edit_gate, gate_page}
 use Rattle.lt_manifest.specs.Written.{InEdits}
-use Rattle.lt_manifest.proofs.WriteLaws.{written-more, shows-writes, comes-writes}
+use Rattle.lt_manifest.proofs.WriteLaws.{written-more, comes-writes}
 use Rattle.lt_manifest.proofs.area.close_edits.Goals as goal
+use Rattle.lt_device.proofs.Shows.{shows-writes}
 
 pub returns-in_err-write-clause-confined : goal.returns-in_err-write-clause-confined
 returns-in_err-write-clause-confined g c =

@@ -1,7 +1,6 @@
 use Rattle.std.proofs.Common.{◌≡◌, ◌≤◌, false}
-use Rattle.lt_device.specs.Moments.{ConfinedTo}
+use Rattle.lt_device.specs.Moments.{ConfinedTo, ShowsSameOutside}
 use Rattle.lt_format.specs.Layout.{edit_gate, gate_page}
-use Rattle.lt_manifest.specs.Moments.{ShowsSameOutside}
 use Rattle.lt_manifest.specs.Written.{AreWritten, ComesFrom, InEdits}
 use Rattle.lt_manifest.proofs.area.close_edits.Given as goal
 

@@ -2,9 +2,9 @@ use Rattle.std.proofs.Common.{arith}
 use Rattle.std.proofs.lemmas.Result.{on_ok_weaker}
 use Rattle.lt_device.proofs.Runs.{confined_within}
 use Rattle.lt_manifest.specs.Written.{InArea, InEdits}
-use Rattle.lt_manifest.proofs.WriteLaws.{shows-joins}
 use Rattle.lt_manifest.proofs.AreaLaws.{area-whole}
 use Rattle.lt_manifest.proofs.area.fill_area.Goals as goal
+use Rattle.lt_device.proofs.Shows.{shows-joins}
 
 pub returns-clause-written : goal.returns-clause-written
 returns-clause-written g c = on_ok_weaker c.close_edits.result (λ gates. λ image told. area-whole c.args.area c.args.bytes.now _ _ c.requires.room c.in_ok-write_pages.ensures.written c.close_edits.ensures.kept gates image told) c.close_edits.ensures.written

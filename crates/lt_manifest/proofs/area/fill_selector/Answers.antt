@@ -1,5 +1,5 @@
 use Rattle.std.proofs.Common.{ℕ, ◌∙◌, ap, List, [], ◌∷◌, arith, refl}
-use Rattle.lt_page.specs.Page.{filled}
+use Rattle.lt_terms.specs.Bytes.{filled}
 use Rattle.lt_layout.proofs.FillLaws.{filled-block_of}
 use Rattle.lt_manifest.proofs.area.fill_selector.Goals as goal
 

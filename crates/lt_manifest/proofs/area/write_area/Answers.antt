@@ -5,7 +5,7 @@ use Rattle.lt_device.proofs.Runs.{syncs}
 use Rattle.lt_device.proofs.Fits.{ended_fit}
 use Rattle.lt_device.proofs.Steps.{ended_shown}
 use Rattle.lt_device.specs.State.{IsFit}
-use Rattle.lt_manifest.specs.Moments.{ShowsSameOutside}
+use Rattle.lt_device.specs.Moments.{ShowsSameOutside}
 use Rattle.lt_manifest.specs.Written.{InArea}
 use Rattle.lt_manifest.proofs.AreaLaws.{sure-shown, sure-others}
 use Rattle.lt_manifest.proofs.area.write_area.Goals as goal

@@ -1,7 +1,6 @@
 use Rattle.std.proofs.Common.{◌≡◌, ◌+◌, ◌≤◌}
-use Rattle.lt_device.specs.Moments.{ConfinedTo}
+use Rattle.lt_device.specs.Moments.{ConfinedTo, ShowsSameOutside}
 use Rattle.lt_format.specs.Layout.{area_block}
-use Rattle.lt_manifest.specs.Moments.{ShowsSameOutside}
 use Rattle.lt_manifest.specs.Written.{AreWritten, InArea, page_of}
 use Rattle.lt_manifest.proofs.area.write_pages.Given as goal
 

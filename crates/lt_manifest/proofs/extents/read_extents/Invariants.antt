@@ -1,5 +1,5 @@
 use Rattle.std.proofs.Common.{◌≡◌, ◌≤◌, List, ℕ, length, slice_index}
-use Rattle.lt_manifest.specs.Marks.{AreMarks}
+use Rattle.lt_node.specs.Marks.{AreMarks}
 use Rattle.lt_manifest.proofs.ExtentLaws.{IsPartRead}
 use Rattle.lt_manifest.proofs.extents.read_extents.Given as goal
 

@@ -3,9 +3,9 @@ use Rattle.std.proofs.lemmas.Result.{on_ok_weaker}
 use Rattle.lt_device.proofs.Runs.{confined_within, confined_widens}
 use Rattle.lt_device.proofs.Steps.{left_whole}
 use Rattle.lt_manifest.specs.Written.{InArea, InSelected}
-use Rattle.lt_manifest.proofs.WriteLaws.{shows-joins, shows-widens}
 use Rattle.lt_manifest.proofs.CommitLaws.{other_written, still_old, selector_written, committed, selects, area-selected}
 use Rattle.lt_manifest.proofs.replacing.replace.Goals as goal
+use Rattle.lt_device.proofs.Shows.{shows-joins, shows-widens}
 
 pub returns-in_err-write_area-clause-any_moment : goal.returns-in_err-write_area-clause-any_moment
 returns-in_err-write_area-clause-any_moment g c = λ old new shown next told rests.

@@ -5,10 +5,10 @@ use Rattle.lt_device.proofs.Runs.{syncs, confined_begins, confined_writes}
 use Rattle.lt_device.proofs.Steps.{ended_shown}
 use Rattle.lt_device.proofs.Fits.{wrote_fit}
 use Rattle.lt_device.proofs.Rest.{unsynced_none}
-use Rattle.lt_manifest.specs.Moments.{ShowsSameOutside}
-use Rattle.lt_manifest.proofs.WriteLaws.{shows-none, shows-writes}
+use Rattle.lt_device.specs.Moments.{ShowsSameOutside}
 use Rattle.lt_manifest.proofs.CommitLaws.{selector-sure}
 use Rattle.lt_manifest.proofs.replacing.select_area.Goals as goal
+use Rattle.lt_device.proofs.Shows.{shows-none, shows-writes}
 
 pub returns-in_err-write-clause-confined : goal.returns-in_err-write-clause-confined
 returns-in_err-write-clause-confined g c = confined_writes c.write.ensures.wrote (confined_begins _) refl

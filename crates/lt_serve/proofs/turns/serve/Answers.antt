@@ -2,9 +2,10 @@ use Rattle.std.proofs.Common.{ℕ, [], ap, refl, subst, Err}
 use Rattle.lt_device.specs.State as told
 use Rattle.lt_serve.specs.Faults.{IsSound}
 use Rattle.lt_serve.specs.Serving.{TurnedOver}
-use Rattle.lt_serve.proofs.TurnLaws.{opens-whole, turned-unopened, unopened-named}
+use Rattle.lt_serve.proofs.TurnLaws.{turned-unopened, unopened-named}
 use Rattle.lt_image.specs.Opening.{open_image}
 use Rattle.lt_serve.proofs.turns.serve.Goals as goal
+use Rattle.lt_store.proofs.OpenLaws.{not_both}
 
 pub returns-in-Ok-clause-over : goal.returns-in-Ok-clause-over
 returns-in-Ok-clause-over g c = λ before r.
@@ -20,7 +21,7 @@ returns-in-Err-clause-over g c = λ before r.
 pub returns-in-Ok-clause-unopened : goal.returns-in-Ok-clause-unopened
 returns-in-Ok-clause-unopened g c = λ b fails.
     let r = c.in-Ok.ensures.reads fails.image fails.shown in
-    absurd (opens-whole (open_image fails.image) r.opened b r.opens fails.stops)
+    absurd (not_both (open_image fails.image) r.opened b r.opens fails.stops)
 
 pub returns-in-Err-clause-unopened : goal.returns-in-Err-clause-unopened
 returns-in-Err-clause-unopened g c = λ b fails. (

@@ -1,9 +1,9 @@
 use Rattle.std.proofs.Common.{◌<◌, ◌∙◌, refl, sym, length, map, get_or, arith}
 use Rattle.std.proofs.lemmas.List.{length-map}
 use Rattle.lt_device.proofs.Runs.{confined_begins}
-use Rattle.lt_store.proofs.NumberLaws.{below-at}
 use Rattle.lt_store.proofs.BuildLaws.{AreBuilt-none, AreBuilt-more, AreBuilt-writing, AreBuilt-all, map-at}
 use Rattle.lt_store.proofs.building.build_tables.Goals as goal
+use Rattle.lt_node.proofs.MarkLaws.{below_at}
 
 pub loop-turn-init : goal.loop-turn-init
 loop-turn-init g c = record {
@@ -16,7 +16,7 @@ loop-turn-init g c = record {
 pub loop-turn-preserved : goal.loop-turn-preserved
 loop-turn-preserved g c =
     let before = c.loop-turn.invariant in
-    let small : get_or c.args.numbers.now c.loop-turn.turn 0 < length c.loop-turn.filters = omega (arith, below-at (length c.args.filters.now) c.args.numbers.now c.loop-turn.turn c.requires.below c.loop-turn-test.true, c.loop-turn.auto.filters) in
+    let small : get_or c.args.numbers.now c.loop-turn.turn 0 < length c.loop-turn.filters = omega (arith, below_at (length c.args.filters.now) c.args.numbers.now c.loop-turn.turn c.requires.below c.loop-turn-test.true, c.loop-turn.auto.filters) in
     let there : c.loop-turn.turn < length c.args.tables.now = omega (arith, c.requires.same_count, c.loop-turn-test.true) in
     record {
       built = AreBuilt-more c.args.geometry.now c.args.filters.now c.loop-turn.filters _ (g.D.Device.state c.args.device.now) (g.D.Device.state c.loop-turn.device) (g.D.Device.state c.build.new.device) c.args.numbers.now _ c.loop-turn.turn _ c.extent.result c.index-tables-turn.result.now c.in_ok-built.built

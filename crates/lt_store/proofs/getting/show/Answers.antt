@@ -1,8 +1,9 @@
 use Rattle.std.proofs.Common.{sym, ap, ◌∙◌}
 use Rattle.lt_item.specs.Views.{item_of}
 use Rattle.lt_store.specs.declared.getting.Version.TheVariants.{Value}
-use Rattle.lt_store.proofs.GetLaws.{version_of-put, page_with-put, valid-short}
+use Rattle.lt_store.proofs.GetLaws.{version_of-put, page_with-put}
 use Rattle.lt_store.proofs.getting.show.Goals as goal
+use Rattle.lt_terms.proofs.ItemLaws.{value_short}
 
 pub returns-in-Put-clause-version : goal.returns-in-Put-clause-version
 returns-in-Put-clause-version c = ap Value c.put_front.ensures.len ∙ sym (version_of-put (item_of c.args.item.now) c.in-Put.is)
@@ -11,4 +12,4 @@ pub returns-in-Put-clause-page : goal.returns-in-Put-clause-page
 returns-in-Put-clause-page c = c.put_front.ensures.page ∙ sym (page_with-put (item_of c.args.item.now) c.args.out.now c.in-Put.is)
 
 pub put_front-requires : goal.put_front-requires
-put_front-requires c = valid-short (item_of c.args.item.now) c.requires
+put_front-requires c = value_short (item_of c.args.item.now) c.requires

@@ -1,5 +1,5 @@
 use Rattle.std.proofs.Common.{◌≡◌, ℕ, List, ◌-◌, ◌≤◌, ◌∙◌, ap, sym, subst, length, IsTrue, arith}
-use Rattle.lt_device.specs.Moments.{Leaves, ConfinedTo}
+use Rattle.lt_device.specs.Moments.{Leaves, ConfinedTo, ShowsSameOutside}
 use Rattle.lt_device.proofs.Runs.{confined_widens}
 use Rattle.lt_format.specs.declared.header.Header.{Header}
 use Rattle.lt_format.specs.Snapshot.{Manifest, snapshot_bytes, extents_stand}
@@ -7,12 +7,13 @@ use Rattle.lt_format.specs.Trie.{Trie}
 use Rattle.lt_format.specs.Naming.{Named, InManifest, may_commit, after_commit}
 use Rattle.lt_node.specs.Changing.{change_of}
 use Rattle.lt_manifest.specs.Opened.{named_by}
-use Rattle.lt_manifest.specs.Moments.{HasOldOrNew, ShowsSameOutside}
+use Rattle.lt_manifest.specs.Moments.{HasOldOrNew}
 use Rattle.lt_manifest.specs.Written.{HasSelected, InSelected}
-use Rattle.lt_manifest.proofs.WriteLaws.{shows-widens, selected-manifest}
+use Rattle.lt_manifest.proofs.WriteLaws.{selected-manifest}
 use Rattle.lt_manifest.proofs.AreaLaws.{area-closed}
 use Rattle.lt_manifest.proofs.ManifestLaws.{IsReady, ready-same, ready-stands, ready-held, ready-next, bytes-fit, AnyMoment, Committed}
 use Rattle.lt_manifest.proofs.manifest.Manifest.commit.Goals as goal
+use Rattle.lt_device.proofs.Shows.{shows-widens}
 
 pub spell-requires-clause-few : goal.spell-requires-clause-few
 spell-requires-clause-few g c =

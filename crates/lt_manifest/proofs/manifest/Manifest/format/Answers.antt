@@ -5,9 +5,9 @@ use Rattle.lt_format.specs.Naming.{InManifest}
 use Rattle.lt_manifest.specs.Opened.{fresh}
 use Rattle.lt_manifest.proofs.ManifestLaws.{bytes-fit, roomy-below, fresh-stands, fresh-written, fresh-named}
 use Rattle.lt_manifest.proofs.AreaLaws.{area-closed}
-use Rattle.lt_manifest.proofs.WriteLaws.{shows-widens, shows-writes}
 use Rattle.lt_manifest.specs.Written.{HasSelected, InArea, InSelected}
 use Rattle.lt_manifest.proofs.manifest.Manifest.format.Goals as goal
+use Rattle.lt_device.proofs.Shows.{shows-widens, shows-writes}
 
 pub spell-requires-clause-few : goal.spell-requires-clause-few
 spell-requires-clause-few g c = bytes-fit c.args.geometry.now (g.D.Device.blocks c.args.device.now) (fresh c.args.geometry.now c.args.extents).manifest (fresh-stands c.args.geometry.now (g.D.Device.blocks c.args.device.now) c.args.extents c.requires.stands)

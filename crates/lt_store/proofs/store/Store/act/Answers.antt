@@ -4,8 +4,7 @@ use Rattle.std.proofs.lemmas.Result.{err_from_is_err_and}
 use Rattle.lt_htable.specs.declared.faults.LookFault.TheVariants.{Damaged}
 use Rattle.lt_store.specs.declared.counts.Stat.{Stat}
 use Rattle.lt_store.specs.declared.writing.Taken.TheVariants as taken
-use Rattle.lt_terms.specs.Items.{Item, item_cost}
-use Rattle.lt_language.specs.Machine.{put_of, delete_of}
+use Rattle.lt_terms.specs.Items.{Item, item_cost, put_of, delete_of}
 use Rattle.lt_store.specs.Acting.{command_of, write_of}
 use Rattle.lt_store.specs.Flushing.{IsFlushed}
 use Rattle.lt_store.specs.Getting.{AnswersSeen, seen_of}
@@ -13,20 +12,21 @@ use Rattle.lt_store.specs.Going.{appended}
 use Rattle.lt_store.specs.Taking.{is_due, readied}
 use Rattle.lt_store.specs.Open.{StoreView, state_of}
 use Rattle.lt_store.specs.View.{view_of}
-use Rattle.lt_store.proofs.ActLaws.{asks-goes, asks-rooted, stat-step, put-step, delete-step, refused-goes, refused-survives, on_err, same-item, same-key, same-taken, tells-fault, limits}
+use Rattle.lt_store.proofs.ActLaws.{asks-goes, asks-rooted, stat-step, put-step, delete-step, refused-goes, refused-survives, same-item, same-key, same-taken, tells-fault, limits}
 use Rattle.lt_store.proofs.AnswerLaws.{all-writes}
 use Rattle.lt_store.proofs.GoLaws.{goes-none}
 use Rattle.lt_store.proofs.RootedLaws.{rooted-none}
 use Rattle.lt_store.proofs.store.Store.act.Goals as goal
+use Rattle.lt_terms.proofs.CauseLaws.{OnErr-always}
 
 -- ---- a put
 
 pub returns-in_err-put-in-Put-clause-goes_on : goal.returns-in_err-put-in-Put-clause-goes_on
-returns-in_err-put-in-Put-clause-goes_on g c = on_err c.from_residual.result (λ is durable opened.
+returns-in_err-put-in-Put-clause-goes_on g c = OnErr-always c.from_residual.result (λ is durable opened.
     refused-goes c.put.new.self.is_up c.put.result c.in_err-put-in-Put.field-0.0 c.in_err-put-in-Put.was c.put.ensures.up c.put.ensures.undamaged _ (λ fault. c.put.ensures.refused fault durable opened) is)
 
 pub returns-in_err-put-in-Put-clause-broken : goal.returns-in_err-put-in-Put-clause-broken
-returns-in_err-put-in-Put-clause-broken g c = on_err c.from_residual.result (λ durable opened.
+returns-in_err-put-in-Put-clause-broken g c = OnErr-always c.from_residual.result (λ durable opened.
     refused-survives c.put.new.self.is_up c.put.result c.in_err-put-in-Put.field-0.0 c.in_err-put-in-Put.was c.put.ensures.up c.put.ensures.undamaged _ (λ fault. c.put.ensures.broken fault durable opened) (λ fault. (c.put.ensures.refused fault durable opened).survives))
 
 pub returns-in_ok-put-in-Put-clause-step : goal.returns-in_ok-put-in-Put-clause-step
@@ -46,11 +46,11 @@ returns-in_ok-put-in-Put-clause-full_images g c = λ needed free is durable open
 -- ---- a delete
 
 pub returns-in_err-delete-in-Delete-clause-goes_on : goal.returns-in_err-delete-in-Delete-clause-goes_on
-returns-in_err-delete-in-Delete-clause-goes_on g c = on_err c.from_residual-in_err-delete-in-Delete.result (λ is durable opened.
+returns-in_err-delete-in-Delete-clause-goes_on g c = OnErr-always c.from_residual-in_err-delete-in-Delete.result (λ is durable opened.
     refused-goes c.delete.new.self.is_up c.delete.result c.in_err-delete-in-Delete.field-0.0 c.in_err-delete-in-Delete.was c.delete.ensures.up c.delete.ensures.undamaged _ (λ fault. c.delete.ensures.refused fault durable opened) is)
 
 pub returns-in_err-delete-in-Delete-clause-broken : goal.returns-in_err-delete-in-Delete-clause-broken
-returns-in_err-delete-in-Delete-clause-broken g c = on_err c.from_residual-in_err-delete-in-Delete.result (λ durable opened.
+returns-in_err-delete-in-Delete-clause-broken g c = OnErr-always c.from_residual-in_err-delete-in-Delete.result (λ durable opened.
     refused-survives c.delete.new.self.is_up c.delete.result c.in_err-delete-in-Delete.field-0.0 c.in_err-delete-in-Delete.was c.delete.ensures.up c.delete.ensures.undamaged _ (λ fault. c.delete.ensures.broken fault durable opened) (λ fault. (c.delete.ensures.refused fault durable opened).survives))
 
 pub returns-in_ok-delete-in-Delete-clause-step : goal.returns-in_ok-delete-in-Delete-clause-step
@@ -70,11 +70,11 @@ returns-in_ok-delete-in-Delete-clause-full_images g c = λ needed free is durabl
 -- ---- a get
 
 pub returns-in_err-len-in-Get-clause-goes_on : goal.returns-in_err-len-in-Get-clause-goes_on
-returns-in_err-len-in-Get-clause-goes_on g c = on_err c.from_residual-in_err-len-in-Get.result (λ is durable opened.
+returns-in_err-len-in-Get-clause-goes_on g c = OnErr-always c.from_residual-in_err-len-in-Get.result (λ is durable opened.
     asks-goes (view_of c.args.self.now) (view_of c.get.new.self) durable _ _ c.get.ensures.unchanged c.get.ensures.state opened)
 
 pub returns-in_err-len-in-Get-clause-broken : goal.returns-in_err-len-in-Get-clause-broken
-returns-in_err-len-in-Get-clause-broken g c = on_err c.from_residual-in_err-len-in-Get.result (λ durable opened.
+returns-in_err-len-in-Get-clause-broken g c = OnErr-always c.from_residual-in_err-len-in-Get.result (λ durable opened.
     (asks-goes (view_of c.args.self.now) (view_of c.get.new.self) durable _ _ c.get.ensures.unchanged c.get.ensures.state opened).survives)
 
 pub returns-in-Some-clause-goes : goal.returns-in-Some-clause-goes

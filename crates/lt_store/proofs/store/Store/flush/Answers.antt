@@ -8,7 +8,7 @@ use Rattle.lt_format.specs.Trie.{all_distinct}
 use Rattle.lt_format.specs.declared.header.Header.{Header}
 use Rattle.lt_format.specs.Changes.{flush}
 use Rattle.lt_format.specs.Naming.{after_commit}
-use Rattle.lt_tables.specs.Filter.{is_in}
+use Rattle.lt_terms.specs.Numbers.{is_in}
 use Rattle.lt_store.specs.Flushing.{AreFree, flush_header, flushed_log}
 use Rattle.lt_store.specs.Open.{StoreView}
 use Rattle.lt_store.specs.View.{view_of}

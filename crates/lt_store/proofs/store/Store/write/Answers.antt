@@ -9,8 +9,9 @@ use Rattle.lt_store.specs.Taking.{IsFullImage, is_due, readied}
 use Rattle.lt_store.specs.View.{view_of}
 use Rattle.lt_store.proofs.GoLaws.{goes-none, goes-stays, goes-append, breaks}
 use Rattle.lt_store.proofs.RootedLaws.{rooted-none, rooted-joins}
-use Rattle.lt_store.proofs.TakeLaws.{full-alike, not-false}
+use Rattle.lt_store.proofs.TakeLaws.{full-alike}
 use Rattle.lt_store.proofs.store.Store.write.Goals as goal
+use Rattle.std.proofs.lemmas.Bool.{true_from_ne_false}
 
 pub returns-then-self-clause-taken : goal.returns-then-self-clause-taken
 returns-then-self-clause-taken g c = λ d o. goes-none (view_of c.args.self.now) d (g.D.Device.state c.args.device.now) o
@@ -106,4 +107,4 @@ returns-in_err-flush_due-clause-memory g c = λ none.
     let v : StoreView = view_of c.args.self.now in
     let ready : view_of c.commit_full.new.self ≡ readied v (item_cost (item_of c.args.item.now)) = c.in_ok-commit_full.ensures.ready ∙ ap (readied v) c.cost.ensures in
     let was : IsErrOf c.from_residual-in_err-flush_due.result faults.NoMemory → IsErrOf c.flush_due.result faults.NoMemory = search rules in
-    not-false _ (λ due. absurd (let ok = (c.flush_due.ensures.not_due (subst (λ (z : StoreView). is_due z ≡ false) (sym ready) due)).0 in let err = was none in cc))
+    true_from_ne_false _ (λ due. absurd (let ok = (c.flush_due.ensures.not_due (subst (λ (z : StoreView). is_due z ≡ false) (sym ready) due)).0 in let err = was none in cc))

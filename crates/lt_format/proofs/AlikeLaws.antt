@@ -1,15 +1,21 @@
 -- Reading asks only of the bytes below the limit, and of the extents before only which they are.
-use Rattle.std.proofs.Common.{◌≡◌, ℕ, zero, suc, ◌+◌, ◌*◌, ◌^◌, ◌<◌, ◌≤◌, refl, ap, ◌∙◌, Bool, true, false, not, cond, ◌&&◌, List, [], ◌∷◌, ◌++◌, map, Option, Some, Result, Ok, Err, arith}
+use Rattle.std.proofs.Common.{◌≡◌, ℕ, zero, suc, ◌+◌, ◌*◌, ◌^◌, ◌<◌, ◌≤◌, refl, ap, ◌∙◌, Bool, true, false, not, cond, ◌&&◌, ◌||◌, List, [], ◌∷◌, ◌++◌, map, Option, Some, Result, Ok, Err, arith}
 use Rattle.std.specs.Prelude.{nat_le, nat_lt, ◌==◌, if◌then◌else◌}
 use Rattle.std.specs.Int.{Width, w8, w16, w32, w64, byte_len, from_be_bytes}
 use Rattle.std.specs.List.{range_with_len}
 use Rattle.std.proofs.lemmas.Bool.{leb-true}
-use Rattle.lt_tables.specs.Filter.{is_in}
+use Rattle.lt_terms.specs.Numbers.{is_in}
 use Rattle.lt_format.specs.declared.node_id.NodeId.{NodeId}
 use Rattle.lt_format.specs.declared.geometry.Geometry.{Geometry}
 use Rattle.lt_format.specs.Trie.{Node, Trie, groups_for}
 use Rattle.lt_format.specs.Snapshot.{field, number_in, follows, extents_at, node_read, nodes_read, front_read, extents_stand, is_zero, always, id_of, extents_of, ◌>>=◌}
-use Rattle.lt_manifest.proofs.ExtentLaws.{SameNumbers, same-more}
+
+-- two lists of the same numbers
+abbrev pub SameNumbers : List ℕ → List ℕ → Type 0
+SameNumbers xs ys = (z : ℕ) → is_in z xs ≡ is_in z ys
+
+pub same-more : (x : ℕ) (xs ys : List ℕ) → SameNumbers xs ys → SameNumbers (x ∷ xs) (x ∷ ys)
+same-more x xs ys same z = ap (λ b. (x == z) || b) (same z)
 
 range-alike : (f g : ℕ → ℕ) (a n : ℕ) → ((i : ℕ) → i < a + n → f i ≡ g i) → map f (range_with_len a n) ≡ map g (range_with_len a n)
 range-alike f g a zero same = refl
