@@ -71,9 +71,10 @@ impl Replies {
         self.settled = self.bytes.len();
     }
 
-    /// The text that may be written.
+    /// The text that may be written. With what waits behind it, and the room, it is the whole buffer.
     pub fn settled(&self) -> &[u8]
-        ensures { result.now ≡ self.now.settled_text }
+        ensures text { result.now ≡ self.now.settled_text }
+        ensures all { self.now.room + length self.now.settled_text + length self.now.pending_text ≡ reply_room }
     {
         &self.bytes[self.start..self.settled]
     }

@@ -1,6 +1,6 @@
 -- Giving settled text to a sink, call by call.
 use Rattle.std.proofs.Common.{◌≡◌, ℕ, ◌+◌, ◌-◌, ◌≤◌, sym, ap, subst, ◌∙◌, List, [], ◌++◌, length, take, drop, length-drop, take-add, arith}
-use Rattle.std.proofs.lemmas.List.{drop-drop, drop_all}
+use Rattle.std.proofs.lemmas.List.{drop-drop}
 use Rattle.lt_io.specs.Sink.{Gains}
 use Rattle.lt_io.proofs.Flows.{Gains-none, Gains-more}
 use Rattle.lt_line.specs.Waiting.{Waiting, without_front}
@@ -27,13 +27,6 @@ sends-more count n stands0 stands1 stands waiting0 waiting1 waiting so_far fits 
       gained = subst (λ (xs : List ℕ). Gains stands0 stands xs) (ap (λ xs. take count waiting0.settled_text ++ take n xs) left ∙ sym (take-add count n waiting0.settled_text)) (Gains-more stands0 stands1 stands (take count waiting0.settled_text) (take n waiting1.settled_text) so_far.gained gained);
       dropped = dropped ∙ ap (without_front n) so_far.dropped ∙ (λ i. record { settled_text = text i; pending_text = waiting0.pending_text; room = room i });
     }
-
--- it took all of it: what waits is what was not settled
-pub sends-empties : (stands0 stands : List ℕ → Type 0) (waiting0 waiting : Waiting) → Sends (length waiting0.settled_text) stands0 stands waiting0 waiting → (waiting.settled_text ≡ []) × (waiting.pending_text ≡ waiting0.pending_text)
-sends-empties stands0 stands waiting0 waiting sends = (
-  ap (λ (w : Waiting). w.settled_text) sends.dropped ∙ drop_all (length waiting0.settled_text) waiting0.settled_text (omega arith),
-  ap (λ (w : Waiting). w.pending_text) sends.dropped,
-)
 
 -- the sink took nothing, and then more
 pub gains_some-none : (stands : List ℕ → Type 0) → GainsSome stands stands

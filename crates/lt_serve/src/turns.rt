@@ -24,15 +24,6 @@ use std::alloc::Global;
 /// How many nonempty pieces one run may take.
 const TURNS: u64 = 1 << 48;
 
-/// Where no text waits, the whole room is free.
-fn all_is_free(replies: &Replies)
-    requires settled { replies.now.settled_text ≡ [] }
-    requires pending { replies.now.pending_text ≡ [] }
-    ensures { replies.now ≡ nothing_waits }
-{
-    let _ = replies.room();
-}
-
 /// Makes a round and gives its replies to the sink. Answers how many bytes it took. The first fault
 /// decides.
 fn step<D: Device, K: Sink>(
@@ -69,10 +60,7 @@ fn step<D: Device, K: Sink>(
 {
     match session.round(alloc, device, piece, replies) {
         Ok(taken) => match emit(sink, replies) {
-            Ok(()) => {
-                all_is_free(replies);
-                Ok(taken)
-            }
+            Ok(()) => Ok(taken),
             Err(Failed) => Err(Served::Sink),
         },
         Err(fault) => {

@@ -9,7 +9,7 @@ loop-sink-init g c = record { later = omega arith; sends = (0, sends-none _ c.ar
 pub loop-sink-preserved : goal.loop-sink-preserved
 loop-sink-preserved g c =
     let so_far = c.loop-sink.invariant in
-    let all = c.settled-in-loop-sink.ensures in
+    let all = c.settled-in-loop-sink.ensures.text in
     record {
       later = omega (arith, so_far.later, c.in_ok-taken.ensures.cause.later);
       sends = (

@@ -1,4 +1,4 @@
-use Rattle.std.proofs.Common.{◌≡◌, ◌++◌, ℕ, List, subst, sym, ap, ◌∙◌, take, drop, []}
+use Rattle.std.proofs.Common.{◌≡◌, ◌++◌, ℕ, List, subst, sym, ap, take, drop, []}
 use Rattle.lt_image.specs.Standing.{after_writes}
 use Rattle.lt_language.specs.Lines.{rest_of}
 use Rattle.lt_language.proofs.LineLaws.{lines_split}
@@ -10,7 +10,6 @@ use Rattle.lt_serve.specs.View.{store_in}
 use Rattle.lt_store.specs.Open.{extents_of}
 use Rattle.lt_serve.proofs.LineLaws.{taken-and-rest}
 use Rattle.lt_serve.proofs.PieceLaws.{PieceStopped, piece-untold, piece-stopped, stepped-on, stepped-over}
-use Rattle.lt_serve.proofs.SendLaws.{sends-empties}
 use Rattle.lt_serve.proofs.turns.step.Goals as goal
 
 pub returns-in-Ok-emit-clause-on : goal.returns-in-Ok-emit-clause-on
@@ -34,9 +33,3 @@ returns-in-Err-clause-over g c = λ before input output start short r.
     (subst (λ (status : Served). PieceStopped (extents_of (store_in c.args.session.now)) (after_writes before r.writes) (rest_of input ++ c.args.piece.now) status (g.K.Sink.stands c.args.sink.now) (g.K.Sink.stands c.emit-in-Err.new.sink) (g.K.Sink.faults c.args.sink.now) (g.K.Sink.faults c.emit-in-Err.new.sink) (g.D.Device.state c.args.device.now) (g.D.Device.state c.round.new.device)) (sym c.served_of.ensures)
     (piece-stopped _ _ (rest_of input ++ c.args.piece.now) c.round.new.self.lines c.in-Err.fault (all_settled c.args.replies.now) c.round.new.out c.emit-in-Err.new.out _ _ _ _ _ _ c.emit-in-Err.result none stopped
     c.emit-in-Err.ensures.all c.emit-in-Err.ensures.front c.emit-in-Err.ensures.cause))
-
-pub all_is_free-requires-clause-settled : goal.all_is_free-requires-clause-settled
-all_is_free-requires-clause-settled g c = (sends-empties _ _ c.round.new.out c.emit.new.out c.in-Ok-emit.ensures.all).0
-
-pub all_is_free-requires-clause-pending : goal.all_is_free-requires-clause-pending
-all_is_free-requires-clause-pending g c = (sends-empties _ _ c.round.new.out c.emit.new.out c.in-Ok-emit.ensures.all).1 ∙ c.in-Ok.ensures.settled
