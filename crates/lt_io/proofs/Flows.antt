@@ -1,9 +1,9 @@
 -- What a source hands out, and what a sink gains, over several calls.
 use Rattle.std.proofs.Common.{◌≡◌, ℕ, ◌+◌, ◌-◌, ◌<◌, arith, refl, sym, ap, ◌∙◌, List, [], ◌++◌, length, take, drop, Option, Some, None, append_assoc}
-use Rattle.std.proofs.lemmas.List.{take_rest, append-nil, take-append-drop, take-take}
+use Rattle.std.proofs.lemmas.List.{take_rest, append-nil, take-append-drop, length-drop}
 use Rattle.std.proofs.Math.Seq.{take-add}
 use Rattle.lt_io.specs.Source.{Takes}
-use Rattle.lt_io.specs.Sink.{Gains, GainsFront}
+use Rattle.lt_io.specs.Sink.{Gains, GainsFront, GainsPart}
 
 pub Takes-none : (left : Option (List ℕ)) → Takes left left []
 Takes-none (Some left) = record { front = refl }
@@ -54,18 +54,16 @@ pub Gains-written : (old between new : List ℕ → Type 0) (bytes : List ℕ) (
 Gains-written old between new bytes written n first then =
     rw take-add (Gains-more old between new (take written bytes) (take n (drop written bytes)) first (rw take_rest at then))
 
--- a write failed behind a front of the bytes
-pub GainsFront-stopped : (old between new : List ℕ → Type 0) (bytes : List ℕ) (written : ℕ) → Gains old between (take written bytes) → Gains between new [] → GainsFront old new bytes
-GainsFront-stopped old between new bytes written first then =
+-- a write failed behind a front of the bytes, where more were left
+pub GainsPart-stopped : (old between new : List ℕ → Type 0) (bytes : List ℕ) (written : ℕ) → written < length bytes → Gains old between (take written bytes) → Gains between new [] → GainsPart old new bytes
+GainsPart-stopped old between new bytes written within first then =
     record {
       shown = take written bytes;
       hidden = drop written bytes;
       whole = sym (take-append-drop written bytes);
+      some = let rest : length (drop written bytes) ≡ length bytes - written = length-drop written bytes in omega arith;
       gained = rw append-nil at (Gains-more old between new (take written bytes) [] first then);
     }
 
--- where a byte was left to write, it failed before the last one
-pub GainsFront-unfinished : (old between new : List ℕ → Type 0) (bytes : List ℕ) (written : ℕ) → written < length bytes → Gains old between (take written bytes) → Gains between new [] → (0 < length bytes) × GainsFront old new (take (length bytes - 1) bytes)
-GainsFront-unfinished old between new bytes written within first then =
-    let same : take written (take (length bytes - 1) bytes) ≡ take written bytes = take-take written (length bytes - 1) bytes (omega (arith, within)) in
-    (omega (arith, within), GainsFront-stopped old between new (take (length bytes - 1) bytes) written (rw same first) then)
+pub GainsPart-front : (old new : List ℕ → Type 0) (bytes : List ℕ) → GainsPart old new bytes → GainsFront old new bytes
+GainsPart-front old new bytes part = record { shown = part.shown; hidden = part.hidden; whole = part.whole; gained = part.gained }

@@ -1,6 +1,6 @@
 ghost use Rattle.std.specs.Prelude.{◌≡◌, ℕ, ◌-◌, ◌<◌, ◌≤◌, List, [], IfOk, OnOk, OnErr, take, length};
 ghost use Rattle.lt_terms.specs.Causes.{HasCause};
-ghost use Rattle.lt_io.specs.Sink.{Gains, GainsFront};
+ghost use Rattle.lt_io.specs.Sink.{Gains, GainsPart};
 
 use lt_page::Failed;
 
@@ -23,12 +23,11 @@ pub trait Sink {
         ensures err { OnErr result (Gains (stands self.old) (stands self.new) []) };
 }
 
-/// Writes all of the bytes. After `Failed` a front of them was taken, without the last byte at least.
+/// Writes all of the bytes. After `Failed` a front of them was taken, and not all.
 pub fn write_all<K: Sink>(sink: &mut K, bytes: &[u8]) -> Result<(), Failed>
     ensures all { OnOk result (Gains (K.stands sink.old) (K.stands sink.new) bytes.now) }
     ensures cause { HasCause (K.faults sink.old) (K.faults sink.new) result }
-    ensures err { OnErr result (GainsFront (K.stands sink.old) (K.stands sink.new) bytes.now) }
-    ensures last { OnErr result ((0 < length bytes.now) × GainsFront (K.stands sink.old) (K.stands sink.new) (take (length bytes.now - 1) bytes.now)) }
+    ensures err { OnErr result (GainsPart (K.stands sink.old) (K.stands sink.new) bytes.now) }
 {
     let mut written = 0;
     while written < bytes.len() {

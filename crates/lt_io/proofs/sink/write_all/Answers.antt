@@ -1,15 +1,11 @@
 use Rattle.std.proofs.Common.{arith, length-take-le, length-drop, ℕ}
-use Rattle.lt_io.proofs.Flows.{Gains-written, GainsFront-stopped, GainsFront-unfinished}
+use Rattle.lt_io.proofs.Flows.{Gains-written, GainsPart-stopped}
 use Rattle.lt_io.proofs.sink.write_all.Goals as goal
 use Rattle.lt_terms.proofs.CauseLaws.{OnErr-always}
 
 pub returns-in_err-written-clause-err : goal.returns-in_err-written-clause-err
 returns-in_err-written-clause-err g c =
-    OnErr-always c.from_residual.result (GainsFront-stopped _ _ _ c.args.bytes.now c.loop-written.written c.loop-written.invariant.gained c.in_err-written.ensures.err)
-
-pub returns-in_err-written-clause-last : goal.returns-in_err-written-clause-last
-returns-in_err-written-clause-last g c =
-    OnErr-always c.from_residual.result (GainsFront-unfinished _ _ _ c.args.bytes.now c.loop-written.written c.loop-written-test.true c.loop-written.invariant.gained c.in_err-written.ensures.err)
+    OnErr-always c.from_residual.result (GainsPart-stopped _ _ _ c.args.bytes.now c.loop-written.written c.loop-written-test.true c.loop-written.invariant.gained c.in_err-written.ensures.err)
 
 pub loop-written-preserved : goal.loop-written-preserved
 loop-written-preserved g c = record {
