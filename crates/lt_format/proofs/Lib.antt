@@ -3,6 +3,7 @@ pub mod ChildLaws
 pub mod KeepLaws
 pub mod LocalLaws
 pub mod NamedLaws
+pub mod FreeLaws
 pub mod NodeReadLaws
 pub mod Numbers
 pub mod ReadLaws

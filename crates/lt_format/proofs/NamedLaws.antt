@@ -17,13 +17,13 @@ use Rattle.lt_format.proofs.ChildLaws.{children-elsewhere}
 use Rattle.lt_format.proofs.TrieLaws.{same_node-same, with_node-rising, find-below, below-less, where_key-below}
 
 -- how often the node that was found names x
-abbrev found_times : ℕ → Option Node → ℕ
+abbrev pub found_times : ℕ → Option Node → ℕ
 found_times x found = times x (node_extents (unwrap_or found empty_node))
 
 named-cons : (x : ℕ) (e : NodeId × Node) (es : Trie) → times x (named (e ∷ es)) ≡ times x (node_extents e.1) + times x (named es)
 named-cons x e es = times-append x (node_extents e.1) (named es)
 
-put_times : (x : ℕ) (id : NodeId) (node : Node) (es : Trie) → is_sorted node_cmp es ≡ true → times x (named (put node_cmp id node es)) + found_times x (find node_cmp id es) ≡ times x (named es) + times x (node_extents node)
+pub put_times : (x : ℕ) (id : NodeId) (node : Node) (es : Trie) → is_sorted node_cmp es ≡ true → times x (named (put node_cmp id node es)) + found_times x (find node_cmp id es) ≡ times x (named es) + times x (node_extents node)
 put_times x id node [] h = omega (arith, named-cons x (id, node) [])
 put_times x id node (e ∷ es) h = by_head (node_cmp id e.0) refl (put_times x id node es parts.1)
   where
@@ -38,7 +38,7 @@ put_times x id node (e ∷ es) h = by_head (node_cmp id e.0) refl (put_times x i
     by_head Equal same rest = omega (arith, named-cons x (e.0, node) es, named-cons x e es)
     by_head Greater after rest = omega (arith, named-cons x e (put node_cmp id node es), named-cons x e es)
 
-gone_times : (x : ℕ) (id : NodeId) (es : Trie) → is_sorted node_cmp es ≡ true → times x (named (where_key node_cmp (λ q. not (same_node id q)) es)) + found_times x (find node_cmp id es) ≡ times x (named es)
+pub gone_times : (x : ℕ) (id : NodeId) (es : Trie) → is_sorted node_cmp es ≡ true → times x (named (where_key node_cmp (λ q. not (same_node id q)) es)) + found_times x (find node_cmp id es) ≡ times x (named es)
 gone_times x id [] h = refl
 gone_times x id (e ∷ es) h = by_head (same_node id e.0) refl (gone_times x id es parts.1)
   where
@@ -113,7 +113,7 @@ children-times x trie (c ∷ children) h =
       times-append x (c.tables ++ c.groups) (flat_map (λ (c : ChildChange). c.tables ++ c.groups) children),
     )
 
-inner_levels : (l : ℕ) → l ≡ l + 1 → ⊥
+pub inner_levels : (l : ℕ) → l ≡ l + 1 → ⊥
 inner_levels l e = omega arith
 
 -- what is named after a change was named before or is new

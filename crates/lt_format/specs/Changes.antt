@@ -3,7 +3,7 @@ use Rattle.std.specs.Prelude.{ℕ, ◌+◌, ◌*◌, ◌/◌, Bool, true, not, �
 use Rattle.std.specs.List.{flat_map, list_all, fold}
 use Rattle.lt_terms.specs.Numbers.{is_in}
 use Rattle.lt_format.specs.declared.node_id.NodeId.{NodeId}
-use Rattle.lt_format.specs.Trie.{Node, Trie, root, node_at, with_node, named, is_node, is_last_level, groups_for, all_distinct, all_below}
+use Rattle.lt_format.specs.Trie.{Node, Trie, root, node_at, node_extents, with_node, named, is_node, is_last_level, groups_for, all_distinct, all_below}
 
 -- what a deal gives a child: new tables, and at the last level how many groups stay and which follow them
 pub record ChildChange : Type 0 where
@@ -78,3 +78,9 @@ unfoldable pub after_change : Trie → Change → Trie
 after_change trie (flush tables) = with_node trie root (appended (node_at trie root) tables)
 after_change trie (deal node dropped children) = with_node (fold after_child trie children) node (without_oldest (node_at trie node) dropped)
 after_change trie (rewrite node tables groups) = with_node trie node (record { base = length tables; tables = tables; groups = groups })
+
+-- the extents that a change no longer names: the oldest tables that were dealt, and the groups of children that do not stay; of a rewriting all that its node had
+abbrev pub freed : Trie → Change → List ℕ
+freed trie (flush tables) = []
+freed trie (deal node dropped children) = take dropped (node_at trie node).tables ++ flat_map (λ (c : ChildChange). drop c.kept_groups (node_at trie c.node).groups) children
+freed trie (rewrite node tables groups) = node_extents (node_at trie node)

@@ -1,6 +1,7 @@
 //! The layout of a device, and what its regions spell.
 #![tactic(auto)]
 
+mod free_laws;
 mod geometry;
 mod header;
 mod laws;
@@ -11,6 +12,7 @@ mod snapshot_laws;
 mod tests;
 mod trie_laws;
 
+pub use free_laws::changes_free;
 pub use geometry::Geometry;
 pub use header::Header;
 pub use laws::regions_are_apart;

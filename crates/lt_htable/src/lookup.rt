@@ -1,8 +1,9 @@
 //! Looking a key up in a table.
 
-ghost use Rattle.std.specs.Prelude.{◌≡◌, ℕ, ◌+◌, ◌<◌, ◌≤◌, List, Some, Ok, MatchResult, IfOk, IfErr, IsErr, IsErrOf};
+ghost use Rattle.std.specs.Prelude.{◌≡◌, ℕ, ◌+◌, ◌<◌, ◌≤◌, List, Some, None, Ok, MatchResult, IfOk, IfErr, IsErr, IsErrOf};
 ghost use Rattle.std.specs.Option.{ForSome, option_map};
-ghost use Rattle.lt_terms.specs.Bytes.{Image};
+ghost use Rattle.lt_terms.specs.Bytes.{Image, block_at};
+ghost use Rattle.lt_terms.specs.Hashes.{home_column};
 ghost use Rattle.lt_terms.specs.Causes.{Rose};
 ghost use Rattle.lt_device.specs.Reads.{CountsAtMost};
 ghost use Rattle.lt_terms.specs.Items as terms;
@@ -44,6 +45,8 @@ pub fn look<'p, D: Device>(
     ensures state { D.state device.new ≡ D.state device.old }
     ensures size { D.blocks device.new ≡ D.blocks device.old }
     ensures count { CountsAtMost 2 (D.reads device.old) (D.reads device.new) }
+    // One read where the home bucket does not send the key.
+    ensures once { (image : Image) → (D.state device.old).shown ≡ Some image → target_of (look_on (block_at image (first + home_column key.now)) key.now) ≡ None → CountsAtMost 1 (D.reads device.old) (D.reads device.new) }
 {
     let block = seek(device, first, key, parts, page)?;
     match BucketView::of(page) {
@@ -79,6 +82,7 @@ fn seek<D: Device>(
     ensures state { D.state device.new ≡ D.state device.old }
     ensures size { D.blocks device.new ≡ D.blocks device.old }
     ensures count { CountsAtMost 2 (D.reads device.old) (D.reads device.new) }
+    ensures once { (image : Image) → (D.state device.old).shown ≡ Some image → target_of (look_on (block_at image (first + home_column key.now)) key.now) ≡ None → CountsAtMost 1 (D.reads device.old) (D.reads device.new) }
 {
     let home = block_in(device, first, parts.column);
     device.read(home, page)?;

@@ -100,13 +100,13 @@ pub node_at-holds : (P : NodeId × Node → Type 0) (id : NodeId) (trie : Trie) 
 unfolding node_at
 node_at-holds P id trie none all = node_holds P id trie none all
 
-sound_tables : (g : Geometry) (image : Image) (id : NodeId) (xs : List ℕ) → AllByRecursion (λ x. NewTable id (extent_in g image x)) xs → flat_map (bad_table_blocks g image id) xs ≡ []
+pub sound_tables : (g : Geometry) (image : Image) (id : NodeId) (xs : List ℕ) → AllByRecursion (λ x. NewTable id (extent_in g image x)) xs → flat_map (bad_table_blocks g image id) xs ≡ []
 sound_tables g image id xs all = flat_map_nil (bad_table_blocks g image id) xs (all_weaker (λ x. NewTable id (extent_in g image x)) (λ x. bad_table_blocks g image id x ≡ []) (λ x t. new_table-sound g image id x t) xs all)
 
-no_groups : (g : Geometry) (image : Image) (tables groups : List ℕ) → groups ≡ [] → flat_map (bad_group_blocks g image tables) (enumerate_from 0 groups) ≡ []
+pub no_groups : (g : Geometry) (image : Image) (tables groups : List ℕ) → groups ≡ [] → flat_map (bad_group_blocks g image tables) (enumerate_from 0 groups) ≡ []
 no_groups g image tables groups e = ap (λ gs. flat_map (bad_group_blocks g image tables) (enumerate_from 0 gs)) e
 
-node_tables_sound : (g : Geometry) (image : Image) (id : NodeId) (n : Node) → bad_node_blocks g image (id, n) ≡ [] → flat_map (bad_table_blocks g image id) n.tables ≡ []
+pub node_tables_sound : (g : Geometry) (image : Image) (id : NodeId) (n : Node) → bad_node_blocks g image (id, n) ≡ [] → flat_map (bad_table_blocks g image id) n.tables ≡ []
 node_tables_sound g image id n e = (nil_append (flat_map (bad_table_blocks g image id) n.tables) (flat_map (bad_group_blocks g image n.tables) (enumerate_from 0 n.groups)) e).0
 
 -- ---- the changes

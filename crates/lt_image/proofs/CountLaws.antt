@@ -80,7 +80,7 @@ one_hit p a (suc n) = by_head (p == a) refl (one_hit p (a + 1) n)
     by_head true e rest = let none : hits p (a + 1) n ≡ 0 = no_hits p (a + 1) n (let is : p ≡ a = eqb-true p a e in omega arith) in omega arith
     by_head false e rest = omega arith
 
-abbrev spread : (Item → ℕ) → List Item → ℕ → ℕ → ℕ
+abbrev pub spread : (Item → ℕ) → List Item → ℕ → ℕ → ℕ
 spread place xs a n = total (λ c. length (filter (λ v. place v == c) xs)) (range_with_len a n)
 
 spread_none : (place : Item → ℕ) (a n : ℕ) → spread place [] a n ≡ 0
@@ -96,7 +96,7 @@ spread_step place v xs a (suc n) = by_head (place v == a) (spread_step place v x
     by_head true rest = omega arith
     by_head false rest = omega arith
 
-spread_few : (place : Item → ℕ) (xs : List Item) (a n : ℕ) → spread place xs a n ≤ length xs
+pub spread_few : (place : Item → ℕ) (xs : List Item) (a n : ℕ) → spread place xs a n ≤ length xs
 spread_few place [] a n = omega (arith, spread_none place a n)
 spread_few place (v ∷ xs) a n = omega (arith, spread_step place v xs a n, one_hit (place v) a n, spread_few place xs a n)
 
@@ -107,7 +107,7 @@ placed_few items block p =
     ap length (table_items-placed p.plans items block p.buckets) ∙ length-joined (λ c. filter (λ v. place_of p.plans v == c) (newest items)) (range_with_len 0 64) in
     omega (arith, spread_so, spread_few (place_of p.plans) (newest items) 0 64, newest-few items)
 
-parts_few : (g : Geometry) (image : Image) (tables : List ℕ) (parts : List (List Item)) → PlacedIn g image tables parts → length (pile_items g image tables) ≤ length (flat_map (λ part. part) parts)
+pub parts_few : (g : Geometry) (image : Image) (tables : List ℕ) (parts : List (List Item)) → PlacedIn g image tables parts → length (pile_items g image tables) ≤ length (flat_map (λ part. part) parts)
 parts_few g image [] [] zip = omega arith
 parts_few g image [] (y ∷ parts) zip = absurd zip
 parts_few g image (x ∷ tables) [] zip = absurd zip
@@ -122,11 +122,11 @@ flush_few g image tables log placed =
 
 -- ---- a number for each node
 
-abbrev found_weight : (NodeId × Node → ℕ) → NodeId → Option Node → ℕ
+abbrev pub found_weight : (NodeId × Node → ℕ) → NodeId → Option Node → ℕ
 found_weight w id None = 0
 found_weight w id (Some n) = w (id, n)
 
-put_weight : (w : NodeId × Node → ℕ) (id : NodeId) (node : Node) (es : Trie) → is_sorted node_cmp es ≡ true → total w (put node_cmp id node es) + found_weight w id (find node_cmp id es) ≡ total w es + w (id, node)
+pub put_weight : (w : NodeId × Node → ℕ) (id : NodeId) (node : Node) (es : Trie) → is_sorted node_cmp es ≡ true → total w (put node_cmp id node es) + found_weight w id (find node_cmp id es) ≡ total w es + w (id, node)
 put_weight w id node [] h = omega arith
 put_weight w id node (e ∷ es) h = by_head (node_cmp id e.0) refl (put_weight w id node es parts.1)
   where
@@ -145,7 +145,7 @@ put_weight w id node (e ∷ es) h = by_head (node_cmp id e.0) refl (put_weight w
         omega arith
     by_head Greater after rest = omega arith
 
-gone_weight : (w : NodeId × Node → ℕ) (id : NodeId) (es : Trie) → is_sorted node_cmp es ≡ true → total w (where_key node_cmp (λ q. not (same_node id q)) es) + found_weight w id (find node_cmp id es) ≡ total w es
+pub gone_weight : (w : NodeId × Node → ℕ) (id : NodeId) (es : Trie) → is_sorted node_cmp es ≡ true → total w (where_key node_cmp (λ q. not (same_node id q)) es) + found_weight w id (find node_cmp id es) ≡ total w es
 gone_weight w id [] h = refl
 gone_weight w id (e ∷ es) h = by_head (same_node id e.0) refl (gone_weight w id es parts.1)
   where
@@ -162,7 +162,7 @@ gone_weight w id (e ∷ es) h = by_head (same_node id e.0) refl (gone_weight w i
     by_head false other rest = omega arith
 
 -- a node in place of the one before
-with_node-weight : (w : NodeId × Node → ℕ) (trie : Trie) (id : NodeId) (node : Node) → is_sorted node_cmp trie ≡ true → w (id, empty_node) ≡ 0 → total w (with_node trie id node) + w (id, node_at trie id) ≤ total w trie + w (id, node)
+pub with_node-weight : (w : NodeId × Node → ℕ) (trie : Trie) (id : NodeId) (node : Node) → is_sorted node_cmp trie ≡ true → w (id, empty_node) ≡ 0 → total w (with_node trie id node) + w (id, node_at trie id) ≤ total w trie + w (id, node)
 unfolding with_node node_at
 with_node-weight w trie id node h none = by_tables (length node.tables == 0)
   where
@@ -177,7 +177,7 @@ with_node-weight w trie id node h none = by_tables (length node.tables == 0)
 -- ---- the stored items, node by node
 
 -- what a node of the first levels holds
-abbrev held_by : Geometry → Image → ℕ → NodeId × Node → ℕ
+abbrev pub held_by : Geometry → Image → ℕ → NodeId × Node → ℕ
 held_by g image levels e = cond (nat_lt e.0.level levels) (length (pile_items g image e.1.tables)) 0
 
 level_long : (g : Geometry) (image : Image) (trie : Trie) (level : ℕ) → length (level_items g image trie level) ≡ total (λ (e : NodeId × Node). cond (e.0.level == level) (length (pile_items g image e.1.tables)) 0) trie
@@ -219,7 +219,7 @@ none_held : (g : Geometry) (image : Image) (trie : Trie) → total (held_by g im
 none_held g image [] = refl
 none_held g image (e ∷ es) = rw (le-ltb e.0.level 0 (omega arith)) (omega (arith, none_held g image es))
 
-above_long : (g : Geometry) (image : Image) (trie : Trie) (levels : ℕ) → length (items_above g image trie levels) ≡ total (held_by g image levels) trie
+pub above_long : (g : Geometry) (image : Image) (trie : Trie) (levels : ℕ) → length (items_above g image trie levels) ≡ total (held_by g image levels) trie
 unfolding items_above
 above_long g image trie zero = sym (none_held g image trie)
 above_long g image trie (suc level) =

@@ -20,7 +20,7 @@ use Rattle.lt_format.proofs.ChildLaws.{not_same}
 pub record KeepsTables (old new : ℕ → List Item) (trie : Trie) : Type 0 where
   pub each : (id : NodeId) → AllByRecursion (λ x. SameNewest (new x) (old x)) (node_at trie id).tables
 
-kept_pile : (old new : ℕ → List Item) (trie : Trie) (id : NodeId) (key : List ℕ) → KeepsTables old new trie → newest_of key (flat_map new (node_at trie id).tables) ≡ newest_of key (flat_map old (node_at trie id).tables)
+pub kept_pile : (old new : ℕ → List Item) (trie : Trie) (id : NodeId) (key : List ℕ) → KeepsTables old new trie → newest_of key (flat_map new (node_at trie id).tables) ≡ newest_of key (flat_map old (node_at trie id).tables)
 kept_pile old new trie id key k = (SameNewest-each new old (node_at trie id).tables (k.each id)).each key
 
 pub other_level : (a b : NodeId) → (a.level ≡ b.level → ⊥) → same_node a b ≡ false

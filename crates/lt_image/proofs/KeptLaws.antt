@@ -28,7 +28,7 @@ use Rattle.lt_image.proofs.StandLaws.{StandsAs, stands-as, as-stands}
 
 -- ---- the stored items
 
-pile_same : (g : Geometry) (old new : Image) (tables : List ℕ) → SameExtents g old new tables → pile_items g new tables ≡ pile_items g old tables
+pub pile_same : (g : Geometry) (old new : Image) (tables : List ℕ) → SameExtents g old new tables → pile_items g new tables ≡ pile_items g old tables
 pile_same g old new [] same = refl
 pile_same g old new (x ∷ tables) same = λ i. same_items (extent_in g old x) (extent_in g new x) same.0 i ++ pile_same g old new tables same.1 i
 

@@ -17,3 +17,14 @@ pub mod LocalLaws
 pub mod CountLaws
 pub mod RootLaws
 pub mod PrefixLaws
+pub mod DealtLaws
+pub mod MoveLaws
+pub mod MoveMapLaws
+pub mod GroupLaws
+pub mod ShareLaws
+pub mod JobLaws
+pub mod JobCountLaws
+pub mod PressureLaws
+pub mod SlackLaws
+pub mod FewLaws
+pub mod GroupAnswerLaws

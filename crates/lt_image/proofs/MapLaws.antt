@@ -65,15 +65,15 @@ pub maps_same : (m n : Map) → ((key : List ℕ) → value_at m key ≡ value_a
 maps_same m n each = same_map nat_list_cmp_total (slice_cmp-IsAntisymmetric nat_cmp-IsAntisymmetric) m n each
 
 -- what an image has of a key, by its parts
-pub read_by : Geometry → Image → Trie → List Item → List ℕ → Option Item
+unfoldable pub read_by : Geometry → Image → Trie → List Item → List ℕ → Option Item
 read_by g image trie log key = option_or (newest_of key log) (on_path (on_level (items_at g image) trie key) g.levels)
 
-read_versions : (o : Opened) (image : Image) (key : List ℕ) → IsSorted (items_at o.named.geometry image) o.named.manifest.trie → value_at (map_of o image) key ≡ value_of (read_by o.named.geometry image o.named.manifest.trie (log_items o) key)
+pub read_versions : (o : Opened) (image : Image) (key : List ℕ) → IsSorted (items_at o.named.geometry image) o.named.manifest.trie → value_at (map_of o image) key ≡ value_of (read_by o.named.geometry image o.named.manifest.trie (log_items o) key)
 unfolding read_by
 read_versions o image key s = get_versions (versions o image) key ∙ ap value_of (newest_of-versions o image key s)
 
 -- the same at the geometry before and the trie after the change
-read_after : (o p : Opened) (old new : Image) (change : Change) (log : List Item) (key : List ℕ) → Follows o p old new change → log_items p ≡ log
+pub read_after : (o p : Opened) (old new : Image) (change : Change) (log : List Item) (key : List ℕ) → Follows o p old new change → log_items p ≡ log
     → IsSorted (items_at p.named.geometry new) p.named.manifest.trie
     → value_at (map_of p new) key ≡ value_of (read_by o.named.geometry new (after_change o.named.manifest.trie change) log key)
 read_after o p old new change log key f log_is s = read_versions p new key s ∙ (λ i. value_of (read_by (f.geometry i) new (f.trie i) (log_is i) key))

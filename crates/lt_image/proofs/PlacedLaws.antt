@@ -26,7 +26,7 @@ use Rattle.lt_image.proofs.SoundLaws.{nil_append, nil_map, nil_flat_map, nil_blo
 use Rattle.lt_image.proofs.SpellsLaws.{spells-reads}
 use Rattle.lt_image.proofs.AfterLaws.{node_at-holds, sound_nodes}
 
-nothing_kept : (test : ℕ → Bool) (a n c : ℕ) → filter test (range_with_len a n) ≡ [] → a ≤ c → c < a + n → test c ≡ false
+pub nothing_kept : (test : ℕ → Bool) (a n c : ℕ) → filter test (range_with_len a n) ≡ [] → a ≤ c → c < a + n → test c ≡ false
 nothing_kept test a zero c e low high = absurd (omega arith)
 nothing_kept test a (suc n) c e low high = step (test a) refl e (λ rest more. nothing_kept test (a + 1) n c rest more (omega arith))
   where

@@ -1,18 +1,22 @@
 -- What stands between an image and the one after a change.
-use Rattle.std.specs.Prelude.{◌≡◌, ℕ, ◌<◌, ◌≤◌, List, [], length}
-use Rattle.std.specs.List.{AllByRecursion, AllZip}
+use Rattle.std.specs.Prelude.{◌≡◌, ℕ, ◌+◌, ◌*◌, ◌<◌, ◌≤◌, List, [], ◌++◌, length, take, slice_range, IsTrue}
+use Rattle.std.specs.List.{AllByRecursion, AllZip, enumerate_from}
 use Rattle.lt_terms.specs.Bytes.{Image, block_at}
 use Rattle.lt_terms.specs.Items.{Item}
 use Rattle.lt_tables.specs.Merge.{newest}
 use Rattle.lt_tables.specs.Cut.{cut}
 use Rattle.lt_tables.specs.Table.{IsPlaced}
+use Rattle.lt_tables.specs.Group.{IsGroup}
 use Rattle.lt_format.specs.declared.geometry.Geometry.{Geometry}
+use Rattle.lt_format.specs.declared.node_id.NodeId.{NodeId}
 use Rattle.lt_format.specs.Layout.{extent_blocks, log_gate}
 use Rattle.lt_format.specs.Naming.{Named}
-use Rattle.lt_format.specs.Trie.{named}
-use Rattle.lt_format.specs.Changes.{Change, flush, after_change}
+use Rattle.lt_format.specs.Trie.{node_at, named}
+use Rattle.lt_format.specs.Changes.{Change, ChildChange, flush, deal, rewrite, fits, after_change}
 use Rattle.lt_image.specs.Opening.{Opened, log_items}
-use Rattle.lt_image.specs.Versions.{extent_in, stored_items}
+use Rattle.lt_image.specs.Shares.{Share, deal_shares, rewrite_share}
+use Rattle.lt_image.specs.Soundness.{filter_blocks}
+use Rattle.lt_image.specs.Versions.{extent_in, pile_items, stored_items}
 
 -- the blocks of an extent are the same in both images
 abbrev pub SameExtent : Geometry → Image → Image → ℕ → Type 0
@@ -49,3 +53,29 @@ pub record Flushes (o p : Opened) (old new : Image) (tables : List ℕ) : Type 0
   pub placed : PlacedIn o.named.geometry new tables (cut (newest (log_items o)))
   pub emptied : log_items p ≡ []
   pub few : length (stored_items p new) ≤ p.named.manifest.header.writes
+
+-- the extent is that of group number j of a pile: the transpose of its tables' filter blocks
+abbrev pub IsGroupAt : Geometry → Image → List ℕ → ℕ × ℕ → Type 0
+IsGroupAt g image tables p = IsGroup (filter_blocks g image (slice_range tables (64 * p.0) (64 * p.0 + 64))) (extent_in g image p.1)
+
+-- the node of a share gets it: the tables of its parts, and behind the groups that stay those of its pile
+pub record Gets (g : Geometry) (image : Image) (c : ChildChange) (s : Share) : Type 0 where
+  pub node : c.node ≡ s.node
+  pub placed : PlacedIn g image c.tables s.parts
+  pub grouped : AllByRecursion (IsGroupAt g image (s.behind ++ c.tables)) (enumerate_from c.kept_groups c.groups)
+
+-- the children of a node got their shares of its oldest tables, which left its pile
+pub record Deals (o p : Opened) (old new : Image) (id : NodeId) (dropped : ℕ) (children : List ChildChange) : Type 0 where
+  pub follows : Follows o p old new (deal id dropped children)
+  pub fit : IsTrue (fits o.named.geometry.levels o.named.manifest.trie (deal id dropped children))
+  pub given : AllZip (Gets o.named.geometry new) children (deal_shares o.named.manifest.trie id (pile_items o.named.geometry old (take dropped (node_at o.named.manifest.trie id).tables)))
+  pub log : log_items p ≡ log_items o
+  pub writes : p.named.manifest.header.writes ≡ o.named.manifest.header.writes
+
+-- a last-level node got its share of its pile, which it replaces
+pub record Rewrites (o p : Opened) (old new : Image) (id : NodeId) (tables groups : List ℕ) : Type 0 where
+  pub follows : Follows o p old new (rewrite id tables groups)
+  pub fit : IsTrue (fits o.named.geometry.levels o.named.manifest.trie (rewrite id tables groups))
+  pub given : Gets o.named.geometry new (record { node = id; tables = tables; kept_groups = 0; groups = groups }) (rewrite_share id (pile_items o.named.geometry old (node_at o.named.manifest.trie id).tables))
+  pub log : log_items p ≡ log_items o
+  pub writes : p.named.manifest.header.writes ≡ o.named.manifest.header.writes

@@ -3,5 +3,8 @@ pub mod Versions
 pub mod Soundness
 pub mod Standing
 pub mod OnPath
+pub mod Shares
+pub mod Needs
+pub mod Bound
 pub mod After
 pub mod Pressure

@@ -5,8 +5,10 @@ mod flushing;
 mod judging;
 mod keeping;
 mod looking;
+mod moving;
 mod opening;
 mod prefixes;
+mod pressing;
 mod rooted;
 
 pub use flushing::{few_items_are_stored, flushes_commit, flushes_stand};
@@ -14,7 +16,9 @@ pub use judging::pages_spell_what_is_read;
 pub use keeping::{
     free_blocks_are_unnamed, fresh_images_stand, logs_grow, named_blocks_tell, writes_add_up,
 };
-pub use looking::{paths_tell, tables_answer};
+pub use looking::{groups_answer, moved_keys_are_sent, paths_tell, tables_answer};
+pub use moving::{moves_commit, moves_stand};
 pub use opening::images_open;
 pub use prefixes::{images_stand_for_one, prefixes_grow};
+pub use pressing::{full_images_have_writes, pressure_is_local, rewritten_piles_have_no_slack};
 pub use rooted::{flushes_reach_the_root, roots_stand_alone};

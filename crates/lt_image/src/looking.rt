@@ -1,16 +1,18 @@
 //! What a search along a key's path finds.
 
-ghost use Rattle.std.specs.Prelude.{◌≡◌, ℕ, List, [], ◌++◌, Ok, None, IsFalse, All};
-ghost use Rattle.std.specs.Option.{option_or};
+ghost use Rattle.std.specs.Prelude.{◌≡◌, ℕ, ◌/◌, ◌%◌, ◌<◌, List, [], ◌++◌, Ok, None, Some, IsFalse, IsTrue, All, false, length, nat_le, slice_index};
+ghost use Rattle.std.specs.Option.{option_map_or, option_or};
 ghost use Rattle.lt_terms.specs.Bytes.{Image};
-ghost use Rattle.lt_terms.specs.Hashes.{home_column};
+ghost use Rattle.lt_terms.specs.Hashes.{home_column, key_suffix};
 ghost use Rattle.lt_terms.specs.Items.{Item};
 ghost use Rattle.lt_terms.specs.Maps.{value_at, after_items};
+ghost use Rattle.lt_tables.specs.declared.Sends.{Sends};
+ghost use Rattle.lt_tables.specs.Bucket.{look_on, moved, sends_on};
 ghost use Rattle.lt_tables.specs.Filter.{covers};
 ghost use Rattle.lt_tables.specs.Merge.{newest, newest_of, value_of};
 ghost use Rattle.lt_tables.specs.Table.{IsPlaced};
 ghost use Rattle.lt_format.specs.declared.node_id.NodeId.{NodeId};
-ghost use Rattle.lt_format.specs.Trie.{node_at};
+ghost use Rattle.lt_format.specs.Trie.{is_last_level, node_at};
 ghost use Rattle.lt_image.specs.Opening.{Opened, open_image, log_items};
 ghost use Rattle.lt_image.specs.Versions.{extent_in, items_at, versions, map_of};
 ghost use Rattle.lt_image.specs.Soundness.{bad_blocks};
@@ -32,4 +34,16 @@ pub fn paths_tell()
 pub fn tables_answer()
     ensures placed { (image : Image) (o : Opened) (id : NodeId) → bad_blocks o image ≡ [] → All (λ x. IsPlaced (newest (items_at o.named.geometry image x)) (extent_in o.named.geometry image x)) (node_at o.named.manifest.trie id).tables }
     ensures skipped { (image : Image) (o : Opened) (id : NodeId) (key : List ℕ) → bad_blocks o image ≡ [] → All (λ x. IsFalse (covers (extent_in o.named.geometry image x 64) (home_column key) key) → newest_of key (items_at o.named.geometry image x) ≡ None) (node_at o.named.manifest.trie id).tables }
+{}
+
+/// Of a table of a last-level node of a sound image the filter in its group's block of a column answers for
+/// each key as its own filter of that column.
+pub fn groups_answer()
+    ensures { (image : Image) (o : Opened) (id : NodeId) (i c : ℕ) (key : List ℕ) → open_image image ≡ Ok o → bad_blocks o image ≡ [] → IsTrue (is_last_level o.named.geometry.levels id) → i < length (node_at o.named.manifest.trie id).tables → c < 64
+        → covers (extent_in o.named.geometry image (slice_index (node_at o.named.manifest.trie id).groups (i / 64)) c) (i % 64) key ≡ covers (extent_in o.named.geometry image (slice_index (node_at o.named.manifest.trie id).tables i) 64) c key }
+{}
+
+/// A page answers that a key is in another bucket only where it sends the key's suffix.
+pub fn moved_keys_are_sent()
+    ensures { (page key : List ℕ) (column : ℕ) → look_on page key ≡ Some (moved column) → IsTrue (option_map_or (λ (t : Sends). nat_le t.mark (key_suffix key)) (sends_on page) false) }
 {}

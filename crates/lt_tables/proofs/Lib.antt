@@ -3,9 +3,11 @@ pub mod CutLaws
 pub mod FilterLaws
 pub mod FitLaws
 pub mod HashLaws
+pub mod GroupLaws
 pub mod ListLaws
 pub mod LookLaws
 pub mod NewestLaws
+pub mod PartLaws
 pub mod PlanLaws
 pub mod RankLaws
 pub mod RankedCutLaws

@@ -1,7 +1,10 @@
-use Rattle.std.proofs.Common.{◌≡◌, ℕ, ◌+◌, List, refl, ap, subst, ◌∙◌, arith}
+use Rattle.std.proofs.Common.{◌≡◌, ℕ, ◌+◌, List, refl, sym, ap, subst, ◌∙◌, arith}
+use Rattle.std.proofs.lemmas.Option.{none-some}
+use Rattle.lt_terms.specs.Bytes.{block_at}
+use Rattle.lt_tables.specs.Bucket.{look_on}
 use Rattle.lt_device.specs.State.{State}
 use Rattle.lt_terms.specs.Hashes.{home_column}
-use Rattle.lt_htable.specs.Reading.{IsRead, IsBlockOf}
+use Rattle.lt_htable.specs.Reading.{IsRead, IsBlockOf, target_of}
 use Rattle.lt_htable.proofs.SoughtLaws.{column-is, column-small}
 use Rattle.lt_htable.proofs.lookup.seek.Goals as goal
 
@@ -38,3 +41,19 @@ returns-in_ok-read-in-Some-clause-sought g c =
       home_read = subst (λ b. IsRead shown b home) home_is c.in_ok-read.ensures.content;
       is = subst (λ o. IsBlockOf shown first (home_column key) home o c.block_in-block.result page) c.in-Some.ensures.target (c.block_in-block.ensures, subst (λ b. IsRead shown b page) c.block_in-block.ensures read);
     }
+
+pub returns-in_err-read-in-Some-clause-once : goal.returns-in_err-read-in-Some-clause-once
+returns-in_err-read-in-Some-clause-once g c = λ image shown none.
+    let first : ℕ = c.args.first in
+    let key : List ℕ = c.args.key.now in
+    let home_is : c.block_in-home.result ≡ first + home_column key = c.block_in-home.ensures ∙ ap (λ n. first + n) (column-is c.args.parts.now key c.requires.parts) in
+    let page_is : c.read.new.into ≡ block_at image (first + home_column key) = c.in_ok-read.ensures.content image shown ∙ ap (block_at image) home_is in
+    absurd (none-some c.in-Some.target (sym none ∙ ap (λ p. target_of (look_on p key)) (sym page_is) ∙ sym c.in-Some.ensures.target))
+
+pub returns-in_ok-read-in-Some-clause-once : goal.returns-in_ok-read-in-Some-clause-once
+returns-in_ok-read-in-Some-clause-once g c = λ image shown none.
+    let first : ℕ = c.args.first in
+    let key : List ℕ = c.args.key.now in
+    let home_is : c.block_in-home.result ≡ first + home_column key = c.block_in-home.ensures ∙ ap (λ n. first + n) (column-is c.args.parts.now key c.requires.parts) in
+    let page_is : c.read.new.into ≡ block_at image (first + home_column key) = c.in_ok-read.ensures.content image shown ∙ ap (block_at image) home_is in
+    absurd (none-some c.in-Some.target (sym none ∙ ap (λ p. target_of (look_on p key)) (sym page_is) ∙ sym c.in-Some.ensures.target))
