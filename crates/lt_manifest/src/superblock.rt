@@ -2,7 +2,7 @@
 
 ghost use Rattle.std.specs.Prelude.{◌≡◌, ℕ, ◌≤◌, Ok, Err, IfOk, IfSome, IsErrOf, IsTrue};
 ghost use Rattle.std.specs.Option.{ForSome, ok_or};
-ghost use Rattle.lt_terms.specs.Causes.{CountsOne, Rose};
+ghost use Rattle.lt_device.specs.Calls.{OnlyReads};
 ghost use Rattle.lt_format.specs.Layout.{is_geometry, geometry_of, blocks_needed};
 ghost use Rattle.lt_format.specs.Naming.{geometry_in, roomy};
 
@@ -23,11 +23,7 @@ pub fn read_geometry<D: Device>(alloc: Global, device: &mut D) -> Result<Geometr
 
     ensures damaged { (b : ℕ) → IsErrOf result (OpenFault.Damaged b) → ForSome (D.state device.old).shown (λ image. geometry_in image ≡ Err b) }
     ensures damaged_block { (b : ℕ) → IsErrOf result (OpenFault.Damaged b) → b ≡ 0 }
-    ensures cause { IsErrOf result OpenFault.Device → Rose (D.faults device.old) (D.faults device.new) }
-    ensures later { D.faults device.old ≤ D.faults device.new }
-    ensures state { D.state device.new ≡ D.state device.old }
-    ensures size { D.blocks device.new ≡ D.blocks device.old }
-    ensures count { CountsOne (D.reads device.old) (D.reads device.new) }
+    ensures calls { OnlyReads D.Device 1 (IsErrOf result OpenFault.Device) device.old device.new }
     ensures none { D.blocks device.old ≡ 0 → D.reads device.new ≡ D.reads device.old }
 {
     if device.blocks() == 0 {

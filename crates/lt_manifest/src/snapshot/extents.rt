@@ -7,7 +7,7 @@ ghost use Rattle.lt_format.specs.Snapshot.{field, extents_at};
 ghost use Rattle.lt_node.specs.Marks.{AreMarks};
 
 use crate::fault::ReadFault;
-use crate::fields::number_u32;
+use crate::snapshot::fields::number_u32;
 use std::alloc::Global;
 
 /// Reads as many extent numbers as wanted. Each of them is below the number of extents and not marked

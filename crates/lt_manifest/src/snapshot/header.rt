@@ -4,7 +4,7 @@ ghost use Rattle.std.specs.Prelude.{◌≡◌, ◌+◌, ◌*◌, ◌^◌, ◌<�
 ghost use Rattle.std.specs.Int.{w8, w16, w32, w64};
 ghost use Rattle.lt_format.specs.Snapshot.{field, front_read, is_zero, extents_stand, always};
 
-use crate::fields::{number_u8, number_u16, number_u32, number_u64};
+use crate::snapshot::fields::{number_u8, number_u16, number_u32, number_u64};
 use lt_format::{Geometry, Header};
 
 /// What the header of a snapshot says: the manifest's header, how many nodes follow, and the length of

@@ -3,8 +3,7 @@
 ghost use Rattle.std.specs.Prelude.{◌≡◌, ℕ, ◌+◌, ◌-◌, ◌*◌, ◌/◌, ◌^◌, ◌<◌, ◌≤◌, Ok, Err, ◌++◌, IfOk, IsErrOf, IsTrue, OnOk, length, slice_index, take};
 ghost use Rattle.std.specs.Option.{ForSome};
 ghost use Rattle.lt_terms.specs.Bytes.{block_at};
-ghost use Rattle.lt_terms.specs.Causes.{CountsOne, Rose};
-ghost use Rattle.lt_device.specs.Reads.{CountsAtMost};
+ghost use Rattle.lt_device.specs.Calls.{OnlyReads};
 ghost use Rattle.lt_format.specs.Layout.{is_geometry, area_block};
 ghost use Rattle.lt_format.specs.Trie.{IsTrie};
 ghost use Rattle.lt_format.specs.Snapshot.{front_read, extents_stand, area_byte, snapshot_in, IsManifest};
@@ -12,8 +11,8 @@ ghost use Rattle.lt_manifest.specs.Area.{AreBytesFrom, after_front};
 ghost use Rattle.lt_manifest.specs.Opened.{InSnapshot};
 
 use crate::fault::ReadFault;
-use crate::front::{Front, read_front};
-use crate::nodes::read_nodes;
+use crate::snapshot::header::{Front, read_front};
+use crate::snapshot::node::read_nodes;
 use lt_device::Device;
 use lt_format::{Geometry, Header};
 use lt_layout::OpenFault;
@@ -38,11 +37,7 @@ pub fn read_snapshot<D: Device>(
     ensures stands { IfOk result (λ read. IsManifest geometry.now (D.blocks device.old) (record { header = read.0; trie = read.1.nodes })) }
     ensures damaged { (b : ℕ) → IsErrOf result (OpenFault.Damaged b) → ForSome (D.state device.old).shown (λ image. snapshot_in geometry.now image area ≡ Err b) }
     ensures damaged_block { (b : ℕ) → IsErrOf result (OpenFault.Damaged b) → InSnapshot b }
-    ensures cause { IsErrOf result OpenFault.Device → Rose (D.faults device.old) (D.faults device.new) }
-    ensures later { D.faults device.old ≤ D.faults device.new }
-    ensures state { D.state device.new ≡ D.state device.old }
-    ensures size { D.blocks device.new ≡ D.blocks device.old }
-    ensures count { CountsAtMost 305 (D.reads device.old) (D.reads device.new) }
+    ensures calls { OnlyReads D.Device 305 (IsErrOf result OpenFault.Device) device.old device.new }
 {
     let blocks = device.blocks();
     let front = read_header(device, geometry, blocks, area, page)?;
@@ -97,11 +92,7 @@ fn read_header<D: Device>(
     ensures damaged { (b : ℕ) → IsErrOf result (OpenFault.Damaged b) → ForSome (D.state device.old).shown (λ image.
         (e : ℕ) × (front_read geometry.now blocks (area_byte image area) ≡ Err e) × (b ≡ area_block area + e / 4096)) }
     ensures damaged_block { (b : ℕ) → IsErrOf result (OpenFault.Damaged b) → b ≡ area_block area }
-    ensures cause { IsErrOf result OpenFault.Device → Rose (D.faults device.old) (D.faults device.new) }
-    ensures later { D.faults device.old ≤ D.faults device.new }
-    ensures state { D.state device.new ≡ D.state device.old }
-    ensures size { D.blocks device.new ≡ D.blocks device.old }
-    ensures count { CountsOne (D.reads device.old) (D.reads device.new) }
+    ensures calls { OnlyReads D.Device 1 (IsErrOf result OpenFault.Device) device.old device.new }
 {
     device.read(geometry.area(area), page)?;
     match read_front(geometry, blocks, front_part(page.bytes(), 40)) {
@@ -125,11 +116,8 @@ fn read_bytes<D: Device>(
     ensures length { IfOk result (λ bytes. length bytes.items ≡ 4096 * count) }
     ensures read { IfOk result (λ bytes. ForSome (D.state device.old).shown (λ image. page.old ≡ block_at image first → AreBytesFrom image first bytes.items)) }
     ensures damaged { (b : ℕ) → IsErrOf result (OpenFault.Damaged b) → ⊥ }
-    ensures cause { IsErrOf result OpenFault.Device → Rose (D.faults device.old) (D.faults device.new) }
-    ensures later { D.faults device.old ≤ D.faults device.new }
-    ensures state { D.state device.new ≡ D.state device.old }
-    ensures size { D.blocks device.new ≡ D.blocks device.old }
-    ensures reads { CountsAtMost (count - 1) (D.reads device.old) (D.reads device.new) }
+    ensures calls { OnlyReads D.Device (count - 1) (IsErrOf result OpenFault.Device)
+        device.old device.new }
 {
     let mut bytes = copied(alloc, page)?;
     for block in 1..count {

@@ -7,7 +7,7 @@ use Rattle.lt_device.proofs.Fits.{wrote_fit}
 use Rattle.lt_device.proofs.Rest.{unsynced_none}
 use Rattle.lt_device.specs.Moments.{ShowsSameOutside}
 use Rattle.lt_manifest.proofs.CommitLaws.{selector-sure}
-use Rattle.lt_manifest.proofs.replacing.select_area.Goals as goal
+use Rattle.lt_manifest.proofs.area.select_area.Goals as goal
 use Rattle.lt_device.proofs.Shows.{shows-none, shows-writes}
 
 pub returns-in_err-write-clause-confined : goal.returns-in_err-write-clause-confined

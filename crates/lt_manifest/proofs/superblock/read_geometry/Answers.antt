@@ -1,6 +1,6 @@
 use Rattle.std.proofs.Common.{arith}
 use Rattle.lt_manifest.proofs.GeometryLaws.{geometry_in-read, read-ok, read-damaged, none-damaged}
-use Rattle.lt_manifest.proofs.geometry.read_geometry.Goals as goal
+use Rattle.lt_manifest.proofs.superblock.read_geometry.Goals as goal
 
 pub returns-then-blocks-eq0-clause-damaged : goal.returns-then-blocks-eq0-clause-damaged
 returns-then-blocks-eq0-clause-damaged g c = λ b is. none-damaged _ _ c.blocks-2.ensures.fit (omega (arith, c.blocks-2.ensures.value, c.if-blocks-eq0.true)) b cc

@@ -2,7 +2,7 @@ use Rattle.std.proofs.Common.{◌≡◌, ◌∙◌, sym, ap, ◌∷◌, ◌++◌
 use Rattle.std.proofs.lemmas.Result.{err_from_is_err_and}
 use Rattle.lt_manifest.proofs.ExtentLaws.{part-none, part-more, part-fault, part-all}
 use Rattle.lt_manifest.proofs.FaultLaws.{handed_field}
-use Rattle.lt_manifest.proofs.extents.read_extents.Goals as goal
+use Rattle.lt_manifest.proofs.snapshot.extents.read_extents.Goals as goal
 
 pub loop-init : goal.loop-init
 loop-init c = record { count = let none : c.new-list.result.items ≡ [] = c.new-list.ensures.items in ap length none; place = c.requires.within; part = λ before marks. let none : c.new-list.result.items ≡ [] = c.new-list.ensures.items in rw none (part-none _ _ _ _ _ before _ marks) }

@@ -1,7 +1,7 @@
 use Rattle.std.proofs.Common.{◌≡◌, ◌≤◌, List, ℕ, length, slice_index}
 use Rattle.lt_node.specs.Marks.{AreMarks}
 use Rattle.lt_manifest.proofs.ExtentLaws.{IsPartRead}
-use Rattle.lt_manifest.proofs.extents.read_extents.Given as goal
+use Rattle.lt_manifest.proofs.snapshot.extents.read_extents.Given as goal
 
 -- the numbers so far were read and marked
 abbrev pub invariant-loop : goal.invariant-loop

@@ -7,7 +7,7 @@ use Rattle.lt_manifest.proofs.NodeLaws.{shaped-from}
 use Rattle.lt_manifest.proofs.ExtentLaws.{same-swapped}
 use Rattle.lt_manifest.proofs.FaultLaws.{handed_field, handed_fault}
 use Rattle.lt_manifest.proofs.ShapeLaws.{node_read-ok, node_read-shape_fault, node_read-tables_fault, node_read-groups_fault}
-use Rattle.lt_manifest.proofs.nodes.read_node.Goals as goal
+use Rattle.lt_manifest.proofs.snapshot.node.read_node.Goals as goal
 
 pub returns-in_err-shape-clause-fault : goal.returns-in_err-shape-clause-fault
 returns-in_err-shape-clause-fault c = λ e is before marks.

@@ -6,7 +6,7 @@ use Rattle.lt_node.specs.View.{TrieView}
 use Rattle.lt_manifest.specs.declared.fault.ReadFault.TheVariants.{Field}
 use Rattle.lt_manifest.proofs.FaultLaws.{handed_fault}
 use Rattle.lt_manifest.proofs.NodeLaws.{are_new-wider, nodes-more, nodes-fault, nodes-all}
-use Rattle.lt_manifest.proofs.nodes.read_nodes.Goals as goal
+use Rattle.lt_manifest.proofs.snapshot.node.read_nodes.Goals as goal
 
 pub returns-in_err-node-clause-fault : goal.returns-in_err-node-clause-fault
 returns-in_err-node-clause-fault c = λ e is.

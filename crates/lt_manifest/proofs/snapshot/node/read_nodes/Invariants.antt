@@ -1,6 +1,6 @@
 use Rattle.std.proofs.Common.{◌≡◌, ◌≤◌, length, slice_index}
 use Rattle.lt_manifest.proofs.NodeLaws.{IsTrieRead}
-use Rattle.lt_manifest.proofs.nodes.read_nodes.Given as goal
+use Rattle.lt_manifest.proofs.snapshot.node.read_nodes.Given as goal
 
 -- the nodes so far were read
 abbrev pub invariant-loop : goal.invariant-loop

@@ -2,7 +2,7 @@ use Rattle.std.proofs.Common.{◌≡◌, ℕ, ◌<◌, ◌∙◌, ap, List, arit
 use Rattle.std.specs.Prelude.{take}
 use Rattle.lt_terms.specs.Bytes.{block_at}
 use Rattle.lt_manifest.proofs.ReadingLaws.{header-read}
-use Rattle.lt_manifest.proofs.reading.read_header.Goals as goal
+use Rattle.lt_manifest.proofs.snapshot.reading.read_header.Goals as goal
 
 pub returns-in-Ok-clause-read : goal.returns-in-Ok-clause-read
 returns-in-Ok-clause-read g c = λ image told.

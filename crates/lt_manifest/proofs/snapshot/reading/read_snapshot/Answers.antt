@@ -8,7 +8,7 @@ use Rattle.lt_device.specs.State.{State}
 use Rattle.lt_layout.specs.declared.fault.OpenFault.TheVariants.{Damaged}
 use Rattle.lt_manifest.proofs.FaultLaws.{handed_open}
 use Rattle.lt_manifest.proofs.ReadingLaws.{few_extents, snapshot_in-front_fault, snapshot_in-ok, snapshot_in-fault}
-use Rattle.lt_manifest.proofs.reading.read_snapshot.Goals as goal
+use Rattle.lt_manifest.proofs.snapshot.reading.read_snapshot.Goals as goal
 
 pub returns-in_err-front-clause-damaged : goal.returns-in_err-front-clause-damaged
 returns-in_err-front-clause-damaged g c = λ b is image told.
@@ -24,7 +24,7 @@ returns-in_err-front-clause-damaged_block g c = λ b is.
 
 pub returns-in-Ok-clause-read : goal.returns-in-Ok-clause-read
 returns-in-Ok-clause-read g c = λ image told.
-    let here = ap (λ (s : State). s.shown) c.read_header.ensures.state ∙ told in
+    let here = ap (λ (s : State). s.shown) c.read_header.ensures.calls.state ∙ told in
     let page = c.in_ok-front.ensures.page image told ∙ ap (block_at image) (sym c.area-first.ensures) in
     let bytes = subst (λ k. AreBytesFrom image k c.in_ok-bytes.bytes.items) c.area-first.ensures (c.in_ok-bytes.ensures.read image here page) in
     let part = c.front_part.ensures.bytes ∙ ap (λ (xs : List ℕ). take c.in_ok-front.front.total xs) c.deref.ensures.value in
@@ -35,7 +35,7 @@ pub returns-clause-damaged : goal.returns-clause-damaged
 returns-clause-damaged g c = λ b is image told.
     let damaged : c.fault_from.result ≡ Damaged b = cc (is) in
     let fault = c.fault_from.ensures.damaged b damaged in
-    let here = ap (λ (s : State). s.shown) c.read_header.ensures.state ∙ told in
+    let here = ap (λ (s : State). s.shown) c.read_header.ensures.calls.state ∙ told in
     let page = c.in_ok-front.ensures.page image told ∙ ap (block_at image) (sym c.area-first.ensures) in
     let bytes = subst (λ k. AreBytesFrom image k c.in_ok-bytes.bytes.items) c.area-first.ensures (c.in_ok-bytes.ensures.read image here page) in
     let part = c.front_part.ensures.bytes ∙ ap (λ (xs : List ℕ). take c.in_ok-front.front.total xs) c.deref.ensures.value in

@@ -1,6 +1,6 @@
 use Rattle.std.proofs.Common.{ap, length, arith}
 use Rattle.lt_manifest.proofs.SpellingLaws.{length-entry}
-use Rattle.lt_manifest.proofs.spelling.node_len.Goals as goal
+use Rattle.lt_manifest.proofs.snapshot.spelling.node_len.Goals as goal
 
 pub overflow_cast-result : goal.overflow_cast-result
 overflow_cast-result c = omega (arith, length-entry c.args.entry.now, ap length c.tables.ensures, ap length c.groups.ensures, c.requires)

@@ -4,7 +4,7 @@ use Rattle.lt_format.specs.declared.header.Header.{Header}
 use Rattle.lt_format.specs.Snapshot.{nodes_bytes}
 use Rattle.lt_format.proofs.SnapshotReadLaws.{length-snapshot}
 use Rattle.lt_manifest.proofs.SpellingLaws.{few_nodes, seven_joined}
-use Rattle.lt_manifest.proofs.spelling.spell.Goals as goal
+use Rattle.lt_manifest.proofs.snapshot.spelling.spell.Goals as goal
 
 pub overflow_cast-nodes : goal.overflow_cast-nodes
 overflow_cast-nodes c = omega (arith, few_nodes c.args.nodes.now, length-snapshot (record { header = c.args.header.now; trie = c.args.nodes.now }), c.requires.few)

@@ -3,7 +3,7 @@ use Rattle.lt_terms.specs.Bytes.{u16, u32}
 use Rattle.lt_format.specs.declared.node_id.NodeId.{NodeId}
 use Rattle.lt_format.specs.Snapshot.{numbers}
 use Rattle.lt_manifest.proofs.SpellingLaws.{length-entry, seven_joined}
-use Rattle.lt_manifest.proofs.spelling.spell_node.Goals as goal
+use Rattle.lt_manifest.proofs.snapshot.spelling.spell_node.Goals as goal
 
 pub overflow_cast-tables : goal.overflow_cast-tables
 overflow_cast-tables c = omega (arith, length-entry c.args.entry.now, ap length c.tables.ensures, c.requires.few)

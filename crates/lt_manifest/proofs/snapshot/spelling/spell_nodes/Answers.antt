@@ -4,7 +4,7 @@ use Rattle.lt_format.specs.Trie.{Node}
 use Rattle.lt_format.specs.Snapshot.{node_bytes, nodes_bytes}
 use Rattle.std.proofs.lemmas.List.Folds.{length-flat_map-take}
 use Rattle.lt_manifest.proofs.SpellingLaws.{nodes-next, spelled-more, spelled-fits}
-use Rattle.lt_manifest.proofs.spelling.spell_nodes.Goals as goal
+use Rattle.lt_manifest.proofs.snapshot.spelling.spell_nodes.Goals as goal
 
 pub spell_node-requires-clause-few : goal.spell_node-requires-clause-few
 spell_node-requires-clause-few c =

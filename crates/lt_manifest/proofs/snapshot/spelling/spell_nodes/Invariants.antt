@@ -1,7 +1,7 @@
 use Rattle.std.proofs.Common.{◌≡◌, ◌≤◌, ◌++◌, drop}
 use Rattle.std.specs.Prelude.{vec_capacity}
 use Rattle.lt_format.specs.Snapshot.{nodes_bytes}
-use Rattle.lt_manifest.proofs.spelling.spell_nodes.Given as goal
+use Rattle.lt_manifest.proofs.snapshot.spelling.spell_nodes.Given as goal
 
 -- what is spelled, and what is left to spell
 abbrev pub invariant-loop-entry : goal.invariant-loop-entry

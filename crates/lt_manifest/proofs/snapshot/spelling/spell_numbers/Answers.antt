@@ -1,7 +1,7 @@
 use Rattle.std.proofs.Common.{ℕ, ◌+◌, ◌∙◌, sym, ap, List, ◌++◌, drop, arith}
 use Rattle.lt_format.specs.Snapshot.{numbers}
 use Rattle.lt_manifest.proofs.SpellingLaws.{numbers-next, spelled-more, spelled-fits}
-use Rattle.lt_manifest.proofs.spelling.spell_numbers.Goals as goal
+use Rattle.lt_manifest.proofs.snapshot.spelling.spell_numbers.Goals as goal
 
 pub add-requires : goal.add-requires
 add-requires c =

@@ -1,7 +1,7 @@
 use Rattle.std.proofs.Common.{◌≡◌, ◌≤◌, ◌++◌, drop}
 use Rattle.std.specs.Prelude.{vec_capacity}
 use Rattle.lt_format.specs.Snapshot.{numbers}
-use Rattle.lt_manifest.proofs.spelling.spell_numbers.Given as goal
+use Rattle.lt_manifest.proofs.snapshot.spelling.spell_numbers.Given as goal
 
 -- what is spelled, and what is left to spell
 abbrev pub invariant-loop-number : goal.invariant-loop-number
