@@ -1,9 +1,11 @@
 -- What a commit changes of the trie.
-use Rattle.std.specs.Prelude.{ℕ, ◌+◌, ◌*◌, ◌/◌, Bool, true, not, ◌&&◌, List, [], ◌∷◌, ◌++◌, length, take, drop, nat_le, nat_lt, ◌==◌, if◌then◌else◌}
+use Rattle.std.specs.Prelude.{ℕ, ◌+◌, ◌*◌, ◌/◌, Bool, true, not, ◌&&◌, List, [], ◌∷◌, ◌++◌, length, take, drop}
+use Rattle.std.specs.Prelude.{nat_le, nat_lt, ◌==◌, if◌then◌else◌}
 use Rattle.std.specs.List.{flat_map, list_all, fold}
 use Rattle.lt_terms.specs.Numbers.{is_in}
 use Rattle.lt_format.specs.declared.node_id.NodeId.{NodeId}
-use Rattle.lt_format.specs.Trie.{Node, Trie, root, node_at, node_extents, with_node, named, is_node, is_last_level, groups_for, all_distinct, all_below}
+use Rattle.lt_format.specs.Trie.{Node, Trie, root, node_at, node_extents, with_node, named, is_node, is_last_level}
+use Rattle.lt_format.specs.Trie.{groups_for, all_distinct, all_below}
 
 -- what a deal gives a child: new tables, and at the last level how many groups stay and which follow them
 pub record ChildChange : Type 0 where
@@ -12,7 +14,8 @@ pub record ChildChange : Type 0 where
   pub kept_groups : ℕ
   pub groups : List ℕ
 
--- A flush appends tables to the root's pile; a deal takes the oldest tables of a pile and gives tables to children; a rewriting replaces a last-level pile and its groups.
+-- A flush appends tables to the root's pile; a deal takes the oldest tables of a pile and gives tables to children;
+-- a rewriting replaces a last-level pile and its groups.
 pub data Change : Type 0 where
   flush : List ℕ → Change
   deal : NodeId → ℕ → List ChildChange → Change
@@ -76,11 +79,16 @@ without_oldest n dropped = record n { tables = drop dropped n.tables }
 -- the trie after the change
 unfoldable pub after_change : Trie → Change → Trie
 after_change trie (flush tables) = with_node trie root (appended (node_at trie root) tables)
-after_change trie (deal node dropped children) = with_node (fold after_child trie children) node (without_oldest (node_at trie node) dropped)
-after_change trie (rewrite node tables groups) = with_node trie node (record { base = length tables; tables = tables; groups = groups })
+after_change trie (deal node dropped children) =
+    with_node (fold after_child trie children) node (without_oldest (node_at trie node) dropped)
+after_change trie (rewrite node tables groups) =
+    with_node trie node (record { base = length tables; tables = tables; groups = groups })
 
--- the extents that a change no longer names: the oldest tables that were dealt, and the groups of children that do not stay; of a rewriting all that its node had
+-- the extents that a change no longer names: the oldest tables that were dealt, and the groups of children that do
+-- not stay; of a rewriting all that its node had
 abbrev pub freed : Trie → Change → List ℕ
 freed trie (flush tables) = []
-freed trie (deal node dropped children) = take dropped (node_at trie node).tables ++ flat_map (λ (c : ChildChange). drop c.kept_groups (node_at trie c.node).groups) children
+freed trie (deal node dropped children) =
+    take dropped (node_at trie node).tables
+    ++ flat_map (λ (c : ChildChange). drop c.kept_groups (node_at trie c.node).groups) children
 freed trie (rewrite node tables groups) = node_extents (node_at trie node)

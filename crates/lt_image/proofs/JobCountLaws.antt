@@ -22,7 +22,7 @@ use Rattle.lt_format.specs.Changes.{ChildChange, deal, rewrite, fits, child_afte
 use Rattle.lt_format.specs.Log.{items_in}
 use Rattle.lt_format.specs.Naming.{may_commit, log_moves, after_commit}
 use Rattle.lt_format.specs.Snapshot.{Manifest}
-use Rattle.lt_format.specs.Trie.{Node, Trie, node_cmp, node_at, with_node, named, empty_node, is_last_level, IsTrie}
+use Rattle.lt_format.specs.Trie.{Node, Trie, node_cmp, node_at, with_node, named, is_last_level, IsTrie}
 use Rattle.lt_format.proofs.ChildLaws.{children-elsewhere}
 use Rattle.lt_format.proofs.NamedLaws.{children-rising}
 use Rattle.lt_format.proofs.ReadLaws.{manifest_of-named}
@@ -34,7 +34,7 @@ use Rattle.lt_image.specs.Shares.{child_share, has_tables, deal_shares, rewrite_
 use Rattle.lt_image.specs.Soundness.{bad_blocks}
 use Rattle.lt_image.specs.Standing.{Stands}
 use Rattle.lt_image.specs.Versions.{items_at, pile_items, items_above, stored_items}
-use Rattle.lt_image.proofs.CountLaws.{newest-few, spread, spread_few, parts_few, with_node-weight, held_by, above_long}
+use Rattle.lt_image.proofs.CountLaws.{newest-few, spread, spread_few, parts_few, with_node-weight, held_by, held_none, above_long}
 use Rattle.lt_image.proofs.JobLaws.{deal-sound, deal-keeps, rewrite-sound, rewrite-keeps}
 use Rattle.lt_image.proofs.KeptLaws.{items_above-same, pile_same, stored-few}
 use Rattle.lt_image.proofs.MapLaws.{named-tables}
@@ -48,13 +48,6 @@ pile_count g image tables = length (pile_items g image tables)
 
 abbrev given_count : Geometry → Image → List ChildChange → ℕ
 given_count g image children = total (λ (c : ChildChange). pile_count g image c.tables) children
-
-held_none : (g : Geometry) (image : Image) (levels : ℕ) (id : NodeId) → held_by g image levels (id, empty_node) ≡ 0
-held_none g image levels id = by_level (nat_lt id.level levels)
-  where
-    by_level : (b : Bool) → cond b (length (pile_items g image [])) 0 ≡ 0
-    by_level true = refl
-    by_level false = refl
 
 piles_join : (g : Geometry) (image : Image) (xs ys : List ℕ) → pile_count g image (xs ++ ys) ≡ pile_count g image xs + pile_count g image ys
 piles_join g image xs ys = ap length (flat_map-append (items_at g image) xs ys) ∙ length-append (pile_items g image xs) (pile_items g image ys)

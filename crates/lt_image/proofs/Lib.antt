@@ -28,3 +28,5 @@ pub mod PressureLaws
 pub mod SlackLaws
 pub mod FewLaws
 pub mod GroupAnswerLaws
+pub mod TakeLaws
+pub mod EndLaws

@@ -46,5 +46,8 @@ exhausted-same m old new same = λ i. settled-same m old new same i && all_same 
 pub node-waits-same : (m : Named) (old new : Image) (id : NodeId) → SameExtents m.geometry old new (named m.manifest.trie) → waits m new (id, node_at m.manifest.trie id) ≡ waits m old (id, node_at m.manifest.trie id)
 node-waits-same m old new id same = waits-same m old new (id, node_at m.manifest.trie id) (named-tables (SameExtent m.geometry old new) m.manifest.trie id same)
 
+pub node-needs-same : (m : Named) (old new : Image) (id : NodeId) → SameExtents m.geometry old new (named m.manifest.trie) → needed m.geometry.levels m.manifest.trie id (node_items m new (node_at m.manifest.trie id)) ≡ needed m.geometry.levels m.manifest.trie id (node_items m old (node_at m.manifest.trie id))
+node-needs-same m old new id same = ap (needed m.geometry.levels m.manifest.trie id) (items_same m old new (id, node_at m.manifest.trie id) (named-tables (SameExtent m.geometry old new) m.manifest.trie id same))
+
 pub node-slack-same : (m : Named) (old new : Image) (id : NodeId) → SameExtents m.geometry old new (named m.manifest.trie) → is_slack m new (id, node_at m.manifest.trie id) ≡ is_slack m old (id, node_at m.manifest.trie id)
 node-slack-same m old new id same = slack-same m old new (id, node_at m.manifest.trie id) (named-tables (SameExtent m.geometry old new) m.manifest.trie id same)

@@ -114,13 +114,13 @@ no_delete (v ∷ items) p = ap (λ b. not b || list_any (λ v. not (is_put v)) i
 
 -- ---- a rewritten pile
 
-zip_count : (g : Geometry) (image : Image) (tables : List ℕ) (parts : List (List Item)) → PlacedIn g image tables parts → length tables ≡ length parts
+pub zip_count : (g : Geometry) (image : Image) (tables : List ℕ) (parts : List (List Item)) → PlacedIn g image tables parts → length tables ≡ length parts
 zip_count g image [] [] zip = refl
 zip_count g image [] (p ∷ parts) zip = absurd zip
 zip_count g image (x ∷ tables) [] zip = absurd zip
 zip_count g image (x ∷ tables) (p ∷ parts) zip = ap suc (zip_count g image tables parts zip.1)
 
-own_needed : (levels : ℕ) (trie : Trie) (id : NodeId) (items : List Item) → is_last_level levels id ≡ true → needed levels trie id items ≡ share_extents levels (rewrite_share id items)
+pub own_needed : (levels : ℕ) (trie : Trie) (id : NodeId) (items : List Item) → is_last_level levels id ≡ true → needed levels trie id items ≡ share_extents levels (rewrite_share id items)
 unfolding needed
 own_needed levels trie id items last =
     ap (λ b. sum_by (share_extents levels) (cond b (rewrite_share id items ∷ []) (deal_shares trie id items))) last

@@ -1,6 +1,7 @@
 //! What an image of a store stands for, when it is sound, and the laws of both.
 #![tactic(auto)]
 
+mod ending;
 mod flushing;
 mod judging;
 mod keeping;
@@ -11,6 +12,7 @@ mod prefixes;
 mod pressing;
 mod rooted;
 
+pub use ending::{digits_are_small, digits_decide, moves_lower_work};
 pub use flushing::{few_items_are_stored, flushes_commit, flushes_stand};
 pub use judging::pages_spell_what_is_read;
 pub use keeping::{
@@ -20,5 +22,8 @@ pub use looking::{groups_answer, moved_keys_are_sent, paths_tell, tables_answer}
 pub use moving::{moves_commit, moves_stand};
 pub use opening::images_open;
 pub use prefixes::{images_stand_for_one, prefixes_grow};
-pub use pressing::{full_images_have_writes, pressure_is_local, rewritten_piles_have_no_slack};
+pub use pressing::{
+    full_images_have_writes, moves_take_what_they_need, pressure_is_local,
+    rewritten_piles_have_no_slack,
+};
 pub use rooted::{flushes_reach_the_root, roots_stand_alone};

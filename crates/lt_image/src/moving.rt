@@ -18,19 +18,36 @@ ghost use Rattle.lt_image.specs.After.{SameExtents, Gets, Deals, Rewrites};
 /// A deal and a rewriting leave a sound image with the same map and the same number of writes: an image
 /// stands after each for the state that it stood for.
 pub fn moves_stand()
-    ensures deal { (old new : Image) (o p : Opened) (id : NodeId) (dropped : ℕ) (children : List ChildChange) (s : State) → open_image old ≡ Ok o → open_image new ≡ Ok p → Stands old s → Deals o p old new id dropped children → Stands new s }
-    ensures rewrite { (old new : Image) (o p : Opened) (id : NodeId) (tables groups : List ℕ) (s : State) → open_image old ≡ Ok o → open_image new ≡ Ok p → Stands old s → Rewrites o p old new id tables groups → Stands new s }
+    ensures deal { (old new : Image) (o p : Opened) (id : NodeId) (dropped : ℕ) (children : List ChildChange)
+        (s : State) → open_image old ≡ Ok o → open_image new ≡ Ok p → Stands old s
+        → Deals o p old new id dropped children → Stands new s }
+    ensures rewrite { (old new : Image) (o p : Opened) (id : NodeId) (tables groups : List ℕ) (s : State)
+        → open_image old ≡ Ok o → open_image new ≡ Ok p → Stands old s → Rewrites o p old new id tables groups
+        → Stands new s }
 {}
 
 /// The commit of a deal or a rewriting whose shares were given: where the extents that were named are as
 /// before, and the log too, the new image stands for the state that the old one stood for.
 pub fn moves_commit()
-    ensures deal { (old new : Image) (o p : Opened) (id : NodeId) (dropped : ℕ) (children : List ChildChange) (header : Header) (s : State) → open_image old ≡ Ok o → open_image new ≡ Ok p → Stands old s
-        → p.named.geometry ≡ o.named.geometry → p.named.manifest ≡ after_commit o.named.manifest (deal id dropped children) header → IsTrue (may_commit o.named.geometry.levels o.named.manifest (deal id dropped children) header) → p.groups ≡ o.groups
+    ensures deal { (old new : Image) (o p : Opened) (id : NodeId) (dropped : ℕ) (children : List ChildChange)
+        (header : Header) (s : State) → open_image old ≡ Ok o → open_image new ≡ Ok p → Stands old s
+        → p.named.geometry ≡ o.named.geometry
+        → p.named.manifest ≡ after_commit o.named.manifest (deal id dropped children) header
+        → IsTrue (may_commit o.named.geometry.levels o.named.manifest (deal id dropped children) header)
+        → p.groups ≡ o.groups
         → SameExtents o.named.geometry old new (named o.named.manifest.trie)
-        → AllZip (Gets o.named.geometry new) children (deal_shares o.named.manifest.trie id (pile_items o.named.geometry old (take dropped (node_at o.named.manifest.trie id).tables))) → Stands new s }
-    ensures rewrite { (old new : Image) (o p : Opened) (id : NodeId) (tables groups : List ℕ) (header : Header) (s : State) → open_image old ≡ Ok o → open_image new ≡ Ok p → Stands old s
-        → p.named.geometry ≡ o.named.geometry → p.named.manifest ≡ after_commit o.named.manifest (rewrite id tables groups) header → IsTrue (may_commit o.named.geometry.levels o.named.manifest (rewrite id tables groups) header) → p.groups ≡ o.groups
+        → AllZip (Gets o.named.geometry new) children
+        (deal_shares o.named.manifest.trie id
+        (pile_items o.named.geometry old (take dropped (node_at o.named.manifest.trie id).tables)))
+        → Stands new s }
+    ensures rewrite { (old new : Image) (o p : Opened) (id : NodeId) (tables groups : List ℕ) (header : Header)
+        (s : State) → open_image old ≡ Ok o → open_image new ≡ Ok p → Stands old s
+        → p.named.geometry ≡ o.named.geometry
+        → p.named.manifest ≡ after_commit o.named.manifest (rewrite id tables groups) header
+        → IsTrue (may_commit o.named.geometry.levels o.named.manifest (rewrite id tables groups) header)
+        → p.groups ≡ o.groups
         → SameExtents o.named.geometry old new (named o.named.manifest.trie)
-        → Gets o.named.geometry new (record { node = id; tables = tables; kept_groups = 0; groups = groups }) (rewrite_share id (pile_items o.named.geometry old (node_at o.named.manifest.trie id).tables)) → Stands new s }
+        → Gets o.named.geometry new (record { node = id; tables = tables; kept_groups = 0; groups = groups })
+        (rewrite_share id (pile_items o.named.geometry old (node_at o.named.manifest.trie id).tables))
+        → Stands new s }
 {}
