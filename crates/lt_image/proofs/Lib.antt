@@ -30,3 +30,4 @@ pub mod FewLaws
 pub mod GroupAnswerLaws
 pub mod TakeLaws
 pub mod EndLaws
+pub mod ExampleLaws

@@ -7,5 +7,6 @@ pub mod Shares
 pub mod Needs
 pub mod Work
 pub mod Bound
+pub mod Examples
 pub mod After
 pub mod Pressure

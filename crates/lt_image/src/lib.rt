@@ -2,6 +2,7 @@
 #![tactic(auto)]
 
 mod ending;
+mod examples;
 mod flushing;
 mod judging;
 mod keeping;
@@ -13,6 +14,10 @@ mod pressing;
 mod rooted;
 
 pub use ending::{digits_are_small, digits_decide, moves_lower_work};
+pub use examples::{
+    bound_by_example, inner_deal_by_example, last_deal_by_example, rewriting_by_example,
+    slack_by_example,
+};
 pub use flushing::{few_items_are_stored, flushes_commit, flushes_stand};
 pub use judging::pages_spell_what_is_read;
 pub use keeping::{
