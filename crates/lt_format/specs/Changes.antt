@@ -21,10 +21,14 @@ pub data Change : Type 0 where
   deal : NodeId → ℕ → List ChildChange → Change
   rewrite : NodeId → List ℕ → List ℕ → Change
 
+-- the extents that a deal newly names
+abbrev pub given_extents : List ChildChange → List ℕ
+given_extents children = flat_map (λ (c : ChildChange). c.tables ++ c.groups) children
+
 -- the extents that a change newly names
 abbrev pub new_extents : Change → List ℕ
 new_extents (flush tables) = tables
-new_extents (deal node dropped children) = flat_map (λ (c : ChildChange). c.tables ++ c.groups) children
+new_extents (deal node dropped children) = given_extents children
 new_extents (rewrite node tables groups) = tables ++ groups
 
 -- k new tables behind t tables: the full groups stay, and the others are new
@@ -33,13 +37,17 @@ groups_fit last t c =
     if last then c.kept_groups == t / 64 && c.kept_groups + length c.groups == groups_for (t + length c.tables)
     else c.kept_groups == 0 && length c.groups == 0
 
+-- a child of the node that gets a table, and whose number is at least `from`
+abbrev pub child_fits : ℕ → Trie → NodeId → ℕ → ChildChange → Bool
+child_fits levels trie node from c =
+    c.node.level == node.level + 1 && nat_le from c.node.number && nat_lt c.node.number (8 * node.number + 8)
+    && nat_le 1 (length c.tables) && groups_fit (is_last_level levels c.node) (length (node_at trie c.node).tables) c
+
 -- children of the node whose numbers are at least `from`, in rising number, each with a table
 abbrev pub children_fit : ℕ → Trie → NodeId → ℕ → List ChildChange → Bool
 children_fit levels trie node from [] = true
 children_fit levels trie node from (c ∷ cs) =
-    c.node.level == node.level + 1 && nat_le from c.node.number && nat_lt c.node.number (8 * node.number + 8)
-    && nat_le 1 (length c.tables) && groups_fit (is_last_level levels c.node) (length (node_at trie c.node).tables) c
-    && children_fit levels trie node (c.node.number + 1) cs
+    child_fits levels trie node from c && children_fit levels trie node (c.node.number + 1) cs
 
 -- the change is one that the trie can take, whatever its new extents are
 abbrev pub shape_fits : ℕ → Trie → Change → Bool

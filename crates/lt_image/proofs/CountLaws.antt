@@ -25,6 +25,7 @@ use Rattle.lt_format.specs.declared.node_id.NodeId.{NodeId}
 use Rattle.lt_format.specs.declared.geometry.Geometry.{Geometry}
 use Rattle.lt_format.specs.Trie.{Node, Trie, root, node_cmp, same_node, node_at, with_node, named, empty_node}
 use Rattle.lt_format.specs.Changes.{flush, appended, after_change}
+use Rattle.lt_format.proofs.FreeLaws.{no_list}
 use Rattle.lt_format.proofs.TrieLaws.{same_node-same, node_exact, find-below, below-less, where_key-below}
 use Rattle.lt_image.specs.Opening.{Opened, open_image, log_items, number_of}
 use Rattle.lt_image.specs.Versions.{extent_in, items_at, pile_items, level_nodes, level_items, items_above, stored_items}
@@ -161,10 +162,6 @@ gone_weight w id (e ∷ es) h = by_head (same_node id e.0) refl (gone_weight w i
         rw (where_key-below id es first) (omega arith)
     by_head false other rest = omega arith
 
-no_tables : (xs : List ℕ) → (length xs == 0) ≡ true → xs ≡ []
-no_tables [] h = refl
-no_tables (x ∷ xs) h = let none : length (x ∷ xs) ≡ 0 = eqb-true (length (x ∷ xs)) 0 h in absurd (omega arith)
-
 -- a node in place of the one before, where one without tables counts nothing
 pub with_node-weight : (w : NodeId × Node → ℕ) (trie : Trie) (id : NodeId) (node : Node) → is_sorted node_cmp trie ≡ true → ((n : Node) → n.tables ≡ [] → w (id, n) ≡ 0) → total w (with_node trie id node) + w (id, node_at trie id) ≡ total w trie + w (id, node)
 unfolding with_node node_at
@@ -175,7 +172,7 @@ with_node-weight w trie id node h none = by_tables (length node.tables == 0) ref
     found_is (Some n) = refl
 
     by_tables : (gone : Bool) → (length node.tables == 0) ≡ gone → total w (cond gone (where_key node_cmp (λ q. not (same_node id q)) trie) (put node_cmp id node trie)) + w (id, unwrap_or (find node_cmp id trie) empty_node) ≡ total w trie + w (id, node)
-    by_tables true is = omega (arith, gone_weight w id trie h, found_is (find node_cmp id trie), none node (no_tables node.tables is))
+    by_tables true is = omega (arith, gone_weight w id trie h, found_is (find node_cmp id trie), none node (no_list node.tables is))
     by_tables false is = omega (arith, put_weight w id node trie h, found_is (find node_cmp id trie))
 
 -- ---- the stored items, node by node

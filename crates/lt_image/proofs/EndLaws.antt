@@ -1,13 +1,14 @@
 -- Dealing and rewriting lower the number of a trie's digits.
 use Rattle.std.proofs.Common.{◌≡◌, ℕ, zero, suc, ◌+◌, ◌-◌, ◌*◌, ◌<◌, ◌≤◌, refl, sym, ap, subst, ◌∙◌, List, [], ◌∷◌, ◌++◌, append_assoc, map, length, length-append, drop, Bool, true, false, cond, ◌&&◌, arith, true≢false}
-use Rattle.std.specs.Prelude.{count_by, fold, nat_le, sum_by, ◌==◌}
+use Rattle.std.specs.Prelude.{fold, nat_le, sum_by, ◌==◌}
 use Rattle.std.specs.FinMap.{is_sorted}
 use Rattle.std.specs.List.{AllByRecursion, range_with_len}
 use Rattle.std.proofs.lemmas.Bool.{eqb-true, eq-eqb, leb-true, lt-leb, ne_eqb}
 use Rattle.std.proofs.lemmas.List.{length-drop}
 use Rattle.std.proofs.lemmas.List.FromFn.{length-map-range_with_len}
 use Rattle.std.proofs.lemmas.List.Sums.{sum_by-cons}
-use Rattle.lt_tables.proofs.FitLaws.{total, sum_total}
+use Rattle.lt_tables.proofs.FitLaws.{all_weaker, sum_total, total}
+use Rattle.lt_tables.proofs.ListLaws.{all_join}
 use Rattle.lt_format.specs.declared.node_id.NodeId.{NodeId}
 use Rattle.lt_format.specs.Changes.{ChildChange, deal, rewrite, fits, new_extents, child_after, after_child, without_oldest, after_change, children_fit}
 use Rattle.lt_format.specs.Trie.{Node, Trie, IsTrie, all_below, is_last_level, named, node_cmp, node_at, node_extents, with_node}
@@ -20,8 +21,7 @@ use Rattle.lt_image.specs.Needs.{full_at, is_full}
 use Rattle.lt_image.specs.Versions.{level_nodes}
 use Rattle.lt_image.specs.Work.{digit_base, due_piles, level_tables, number_of_digits, trie_digits}
 use Rattle.lt_image.proofs.CountLaws.{with_node-weight}
-use Rattle.lt_image.proofs.ListLaws.{all_left, all_right}
-use Rattle.lt_image.proofs.ShareLaws.{IsDeal, IsRewriting, fits-deal, fits-rewrite}
+use Rattle.lt_image.proofs.ShareLaws.{IsDeal, fits-deal, fits-rewrite}
 
 -- ---- the number by its digits
 
@@ -120,14 +120,6 @@ levels_within : (extents : ℕ) (trie : Trie) (ls : List ℕ) → length (named 
 levels_within extents trie [] few = tt
 levels_within extents trie (l ∷ ls) few = (omega (arith, level_total trie l, named_few (at_level l) (level_few l) trie, few), levels_within extents trie ls few)
 
-all_join : (P : ℕ → Type 0) (xs ys : List ℕ) → AllByRecursion P xs → AllByRecursion P ys → AllByRecursion P (xs ++ ys)
-all_join P [] ys a b = b
-all_join P (x ∷ xs) ys a b = (a.0, all_join P xs ys a.1 b)
-
-all_weaker : (P Q : ℕ → Type 0) (xs : List ℕ) → ((x : ℕ) → P x → Q x) → AllByRecursion P xs → AllByRecursion Q xs
-all_weaker P Q [] f all = tt
-all_weaker P Q (x ∷ xs) f all = (f x all.0, all_weaker P Q xs f all.1)
-
 -- EACH DIGIT is at most the number of extents
 pub digits-within : (levels extents : ℕ) (trie : Trie) → IsTrie levels extents trie → AllByRecursion (λ d. d ≤ extents) (trie_digits levels trie)
 digits-within levels extents trie t =
@@ -137,7 +129,7 @@ digits-within levels extents trie t =
 
 -- and below the base
 pub digits-below : (levels extents : ℕ) (trie : Trie) → extents ≤ 65536 → IsTrie levels extents trie → AllByRecursion (λ d. d < digit_base) (trie_digits levels trie)
-digits-below levels extents trie small t = all_weaker (λ d. d ≤ extents) (λ d. d < digit_base) (trie_digits levels trie) (λ d few. omega arith) (digits-within levels extents trie t)
+digits-below levels extents trie small t = all_weaker (λ d. d ≤ extents) (λ d. d < digit_base) (λ d few. omega arith) (trie_digits levels trie) (digits-within levels extents trie t)
 
 -- ---- a deal
 

@@ -12,9 +12,10 @@ use Rattle.lt_tables.specs.Cut.{first_fit, counts_within}
 use Rattle.lt_tables.specs.Filter.{covers}
 use Rattle.lt_tables.specs.Placement.{columns, column_load, column_mark, sent_cost, room, sendings, placement}
 use Rattle.lt_format.specs.Log.{items_in}
-use Rattle.lt_format.specs.Trie.{child, node_at, path_number, root}
+use Rattle.lt_format.specs.Changes.{after_change}
+use Rattle.lt_format.specs.Trie.{child, node_at, path_number, root, with_node}
 use Rattle.lt_image.specs.Bound.{holds_key, is_sent, met, read_bound, reads_of, up_to_first}
-use Rattle.lt_image.specs.Examples.{grouped_trie, inner_trie, last_trie, long_keys, long_put, old_versions, pile, three_keys, two_levels}
+use Rattle.lt_image.specs.Examples.{grouped_trie, inner_deal, inner_trie, last_trie, long_keys, long_put, old_versions, pile, three_keys, two_levels}
 use Rattle.lt_image.specs.Needs.{has_slack}
 use Rattle.lt_image.specs.OnPath.{Stop, stops}
 use Rattle.lt_image.specs.Opening.{Opened}
@@ -28,6 +29,10 @@ inner-shares = refl
 pub inner-needs : needed 3 inner_trie root three_keys ≡ 2
 unfolding rank_cmp key_hash first_words schedule rounds compress hash_after digest_bytes sha1 node_at first_fit counts_within columns column_load column_mark sent_cost room sendings placement needed
 inner-needs = refl
+
+pub inner-trie : after_change inner_trie inner_deal ≡ (child root 1, pile 20 1 []) ∷ (child root 4, record { base = 0; tables = 8 ∷ 9 ∷ 21 ∷ []; groups = [] }) ∷ []
+unfolding after_change node_at with_node
+inner-trie = refl
 
 pub last-shares : deal_shares last_trie root long_keys ≡ record { node = child root 1; behind = (pile 12 64 []).tables; parts = (put_of (codes "d") [] ∷ []) ∷ [] } ∷ record { node = child root 4; behind = (pile 77 63 []).tables; parts = (long_put 198 ∷ long_put 156 ∷ []) ∷ (long_put 3 ∷ []) ∷ [] } ∷ []
 unfolding rank_cmp key_hash first_words schedule rounds compress hash_after digest_bytes sha1 node_at first_fit counts_within columns column_load column_mark sent_cost room sendings placement needed

@@ -1,5 +1,4 @@
 pub mod Words
-pub mod ListLaws
 pub mod ChangeLaws
 pub mod PathLaws
 pub mod SoundLaws

@@ -3,6 +3,7 @@ use Rattle.std.proofs.Common.{◌≡◌, ◌+◌, refl, ap, [], ◌∷◌, lengt
 use Rattle.std.specs.Prelude.{nat_lt}
 use Rattle.std.specs.List.{list_all}
 use Rattle.lt_terms.specs.Bytes.{Image}
+use Rattle.lt_tables.proofs.ListLaws.{all_left, all_right}
 use Rattle.lt_format.specs.declared.node_id.NodeId.{NodeId}
 use Rattle.lt_format.specs.Naming.{Named}
 use Rattle.lt_format.specs.Trie.{Node, Trie, named, node_at, node_extents, is_last_level}
@@ -11,7 +12,6 @@ use Rattle.lt_image.specs.Needs.{is_full, is_twice_full, node_items, has_slack, 
 use Rattle.lt_image.specs.Shares.{needed}
 use Rattle.lt_image.specs.Versions.{free_extents}
 use Rattle.lt_image.proofs.KeptLaws.{pile_same}
-use Rattle.lt_image.proofs.ListLaws.{all_left, all_right}
 use Rattle.lt_image.proofs.MapLaws.{named-tables}
 
 items_same : (m : Named) (old new : Image) (e : NodeId × Node) → SameExtents m.geometry old new e.1.tables → node_items m new e.1 ≡ node_items m old e.1

@@ -22,7 +22,7 @@ use Rattle.lt_image.specs.Versions.{extent_in, pile_items, stored_items}
 abbrev pub SameExtent : Geometry → Image → Image → ℕ → Type 0
 SameExtent g old new x = (c : ℕ) → c < extent_blocks → extent_in g new x c ≡ extent_in g old x c
 
--- those of each of these extents
+-- the blocks of each of the extents are the same in both images
 abbrev pub SameExtents : Geometry → Image → Image → List ℕ → Type 0
 SameExtents g old new extents = AllByRecursion (SameExtent g old new) extents
 
@@ -60,7 +60,8 @@ abbrev pub IsGroupAt : Geometry → Image → List ℕ → ℕ × ℕ → Type 0
 IsGroupAt g image tables p =
     IsGroup (filter_blocks g image (slice_range tables (64 * p.0) (64 * p.0 + 64))) (extent_in g image p.1)
 
--- the node of a share gets it: the tables of its parts, and behind the groups that stay those of its pile
+-- the node of a share gets it: its new tables are placed for the share's parts, and its new groups are those of the
+-- pile that has the new tables behind the old ones
 pub record Gets (g : Geometry) (image : Image) (c : ChildChange) (s : Share) : Type 0 where
   pub node : c.node ≡ s.node
   pub placed : PlacedIn g image c.tables s.parts

@@ -4,7 +4,7 @@ use Rattle.std.specs.Prelude.{ℕ, List, [], ◌∷◌, codes, replicate}
 use Rattle.std.specs.List.{range_with_len}
 use Rattle.lt_terms.specs.Items.{Item, delete_of, put_of}
 use Rattle.lt_format.specs.declared.geometry.Geometry.{Geometry}
-use Rattle.lt_format.specs.declared.node_id.NodeId.{NodeId}
+use Rattle.lt_format.specs.Changes.{Change, deal}
 use Rattle.lt_format.specs.Trie.{Node, Trie, child, root}
 
 -- a node whose tables are so many extents from a number on, with these groups
@@ -20,6 +20,12 @@ abbrev pub three_keys : List Item
 three_keys =
     put_of (codes "a") (1 ∷ []) ∷ put_of (codes "d") (2 ∷ []) ∷ put_of (codes "c") (3 ∷ [])
     ∷ put_of (codes "a") (4 ∷ []) ∷ delete_of (codes "d") ∷ []
+
+-- the change of the deal of the three keys, where extent 20 becomes the table of child 1 and extent 21 that of child 4
+abbrev pub inner_deal : Change
+inner_deal =
+    deal root 8 (record { node = child root 1; tables = 20 ∷ []; kept_groups = 0; groups = [] }
+    ∷ record { node = child root 4; tables = 21 ∷ []; kept_groups = 0; groups = [] } ∷ [])
 
 -- a full root over last-level children: one with a group that is not full, one whose group is full, and one with a
 -- last group that is not full

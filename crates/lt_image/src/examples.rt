@@ -6,10 +6,11 @@ ghost use Rattle.lt_terms.specs.Items.{delete_of, put_of};
 ghost use Rattle.lt_tables.specs.declared.Sends.{Sends};
 ghost use Rattle.lt_tables.specs.Bucket.{sends_on};
 ghost use Rattle.lt_tables.specs.Filter.{covers};
+ghost use Rattle.lt_format.specs.Changes.{after_change};
 ghost use Rattle.lt_format.specs.Trie.{child, root};
 ghost use Rattle.lt_image.specs.Bound.{holds_key, read_bound};
-ghost use Rattle.lt_image.specs.Examples.{grouped_trie, inner_trie, last_trie, long_keys, long_put, old_versions};
-ghost use Rattle.lt_image.specs.Examples.{pile, three_keys, two_levels};
+ghost use Rattle.lt_image.specs.Examples.{grouped_trie, inner_deal, inner_trie, last_trie, long_keys, long_put};
+ghost use Rattle.lt_image.specs.Examples.{old_versions, pile, three_keys, two_levels};
 ghost use Rattle.lt_image.specs.Needs.{has_slack};
 ghost use Rattle.lt_image.specs.Opening.{Opened};
 ghost use Rattle.lt_image.specs.Shares.{Share, deal_shares, kept_groups, needed, new_groups, rewrite_share};
@@ -17,7 +18,7 @@ ghost use Rattle.lt_image.specs.Shares.{share_extents};
 ghost use Rattle.lt_image.specs.Versions.{extent_in, items_at};
 
 /// A deal to two children of an inner level: the newest item of each key goes to the child that its digit
-/// names, the delete too, behind the tables that the child has.
+/// names, the delete too, behind the tables that the child has. The root is left without tables.
 pub fn inner_deal_by_example()
     ensures shares { deal_shares inner_trie root three_keys
         ≡ record { node = child root 1; behind = []; parts = (delete_of (codes "d") ∷ []) ∷ [] }
@@ -27,6 +28,9 @@ pub fn inner_deal_by_example()
           parts = (put_of (codes "c") (3 ∷ []) ∷ put_of (codes "a") (4 ∷ []) ∷ []) ∷ [];
         } ∷ [] }
     ensures needs { needed 3 inner_trie root three_keys ≡ 2 }
+    ensures trie { after_change inner_trie inner_deal
+        ≡ (child root 1, pile 20 1 [])
+        ∷ (child root 4, record { base = 0; tables = 8 ∷ 9 ∷ 21 ∷ []; groups = [] }) ∷ [] }
 {}
 
 /// A deal to the last level: child 1 gets a table behind a full group, which stays, and child 4 two tables
@@ -55,8 +59,8 @@ pub fn rewriting_by_example()
         } }
     ensures needs { needed 2 last_trie (child root 4) old_versions ≡ 2 }
     ensures before { has_slack 2 last_trie (child root 4) old_versions 2 ≡ true }
-    ensures after { has_slack 2 last_trie (child root 4) (put_of (codes "c") (3 ∷ []) ∷ put_of (codes "t") (4 ∷ []) ∷ []) 2
-        ≡ false }
+    ensures after { has_slack 2 last_trie (child root 4)
+        (put_of (codes "c") (3 ∷ []) ∷ put_of (codes "t") (4 ∷ []) ∷ []) 2 ≡ false }
 {}
 
 /// A delete alone is slack, and so is an old version, and so is an extent too many. A rewriting of 64 tables

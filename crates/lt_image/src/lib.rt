@@ -24,7 +24,7 @@ pub use keeping::{
     free_blocks_are_unnamed, fresh_images_stand, logs_grow, named_blocks_tell, writes_add_up,
 };
 pub use looking::{groups_answer, moved_keys_are_sent, paths_tell, tables_answer};
-pub use moving::{moves_commit, moves_stand};
+pub use moving::{moves_commit, moves_stand, moves_store_no_more};
 pub use opening::images_open;
 pub use prefixes::{images_stand_for_one, prefixes_grow};
 pub use pressing::{
