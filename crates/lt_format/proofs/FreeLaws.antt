@@ -12,12 +12,12 @@ use Rattle.lt_format.proofs.ShapeLaws.{node_at-shaped, shaped-inner}
 use Rattle.lt_format.specs.Trie.{IsTrie, all_below, all_distinct, is_last_level, is_node, Node, Trie, root, node_cmp, same_node, node_at, with_node, node_extents, named, empty_node, groups_for}
 use Rattle.lt_format.specs.Changes.{are_new, fits, Change, flush, deal, rewrite, ChildChange, new_extents, shape_fits, children_fit, appended, child_after, after_child, without_oldest, after_change, freed}
 use Rattle.lt_format.proofs.Numbers.{times, times-append, times-parts, times-distinct, times-apart, times-absent, absent-times, distinct-times}
-use Rattle.lt_tables.proofs.ListLaws.{all_take, all_drop}
+use Rattle.lt_tables.proofs.ListLaws.{all_drop, all_join, all_left, all_right, all_take}
 use Rattle.lt_format.proofs.ChildLaws.{children_fit-first, children-elsewhere, child-elsewhere}
 use Rattle.lt_format.proofs.NamedLaws.{found_times, put_times, gone_times, children-rising, inner_levels}
 use Rattle.lt_format.proofs.TrieLaws.{with_node-rising}
 
-no_list : (xs : List ℕ) → (length xs == 0) ≡ true → xs ≡ []
+pub no_list : (xs : List ℕ) → (length xs == 0) ≡ true → xs ≡ []
 no_list [] h = refl
 no_list (x ∷ xs) h = let e : length (x ∷ xs) ≡ 0 = eqb-true (length (x ∷ xs)) 0 h in absurd (omega arith)
 
@@ -133,18 +133,6 @@ change-frees x levels trie (rewrite node tables groups) h fit bare root_bare =
 
 -- ---- membership
 
-all_left : (P : ℕ → Type 0) (xs ys : List ℕ) → AllByRecursion P (xs ++ ys) → AllByRecursion P xs
-all_left P [] ys all = tt
-all_left P (x ∷ xs) ys all = (all.0, all_left P xs ys all.1)
-
-all_right : (P : ℕ → Type 0) (xs ys : List ℕ) → AllByRecursion P (xs ++ ys) → AllByRecursion P ys
-all_right P [] ys all = all
-all_right P (x ∷ xs) ys all = all_right P xs ys all.1
-
-all_join : (P : ℕ → Type 0) (xs ys : List ℕ) → AllByRecursion P xs → AllByRecursion P ys → AllByRecursion P (xs ++ ys)
-all_join P [] ys a b = b
-all_join P (x ∷ xs) ys a b = (a.0, all_join P xs ys a.1 b)
-
 found_all : (P : ℕ → Type 0) (id : NodeId) (e : NodeId × Node) (es : Trie) (same : Bool) → AllByRecursion P (node_extents e.1) → AllByRecursion P (node_extents (unwrap_or (find node_cmp id es) empty_node)) → AllByRecursion P (node_extents (unwrap_or (cond same (Some e.1) (find node_cmp id es)) empty_node))
 found_all P id e es true here rest = here
 found_all P id e es false here rest = rest
@@ -214,7 +202,8 @@ no_elements : (xs : List ℕ) → length xs ≡ 0 → xs ≡ []
 no_elements [] h = refl
 no_elements (x ∷ xs) h = absurd (omega arith)
 
-bare_inner : (levels extents : ℕ) (trie : Trie) (id : NodeId) → IsTrie levels extents trie → is_last_level levels id ≡ false → (node_at trie id).groups ≡ []
+-- an inner node has no groups
+pub bare_inner : (levels extents : ℕ) (trie : Trie) (id : NodeId) → IsTrie levels extents trie → is_last_level levels id ≡ false → (node_at trie id).groups ≡ []
 bare_inner levels extents trie id t inner = no_elements (node_at trie id).groups (shaped-inner levels extents id (node_at trie id) inner (node_at-shaped levels extents trie id t.nodes)).1
 
 root_inner : (levels : ℕ) → 2 ≤ levels → is_last_level levels root ≡ false

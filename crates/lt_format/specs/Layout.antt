@@ -1,5 +1,6 @@
 -- Which block holds what, the superblock, the selector and the gates.
-use Rattle.std.specs.Prelude.{ℕ, zero, suc, ◌+◌, ◌*◌, ◌%◌, Bool, ◌&&◌, List, [], ◌∷◌, ◌++◌, take, drop, Option, Some, None, Result, Ok, Err, nat_le, ◌==◌, if◌then◌else◌, slice_index, codes}
+use Rattle.std.specs.Prelude.{ℕ, zero, suc, ◌+◌, ◌*◌, ◌%◌, Bool, ◌&&◌, List, [], ◌∷◌, ◌++◌, take, drop, Option}
+use Rattle.std.specs.Prelude.{Some, None, Result, Ok, Err, nat_le, ◌==◌, if◌then◌else◌, slice_index, codes}
 use Rattle.lt_terms.specs.Bytes.{Image, block_at, u16, u16_at, block_of, all_zero, same_bytes}
 use Rattle.lt_format.specs.declared.geometry.Geometry.{Geometry}
 
@@ -72,7 +73,8 @@ gate_page opened = block_of ((if opened then 1 else 0) ∷ [])
 -- the first open gate of n slots from slot i on, where this function gives the gates
 unfoldable pub first_open : Image → (ℕ → ℕ) → ℕ → ℕ → Option ℕ
 first_open image gate i zero = None
-first_open image gate i (suc n) = if is_open (block_at image (gate i)) then Some (gate i) else first_open image gate (i + 1) n
+first_open image gate i (suc n) =
+    if is_open (block_at image (gate i)) then Some (gate i) else first_open image gate (i + 1) n
 
 -- what was read up to a closed gate, if no gate behind it is open; else the first that is
 abbrev pub closed_from : {A : Type 0} → Option ℕ → A → Result A ℕ

@@ -1,5 +1,6 @@
 -- The log in a log area: groups of items, up to the first closed gate.
-use Rattle.std.specs.Prelude.{ℕ, zero, suc, ◌+◌, ◌^◌, Bool, ◌&&◌, List, [], ◌∷◌, ◌++◌, length, drop, Option, Some, None, Result, Ok, Err, nat_le, nat_lt, if◌then◌else◌, slice_range}
+use Rattle.std.specs.Prelude.{ℕ, zero, suc, ◌+◌, ◌^◌, Bool, ◌&&◌, List, [], ◌∷◌, ◌++◌, length, drop, Option, Some}
+use Rattle.std.specs.Prelude.{None, Result, Ok, Err, nat_le, nat_lt, if◌then◌else◌, slice_range}
 use Rattle.std.specs.List.{flat_map}
 use Rattle.lt_terms.specs.Bytes.{Image, block_at, block_of, u16, u16_at, all_zero}
 use Rattle.lt_terms.specs.Items.{Item, total_cost, spellings, items_of}
@@ -36,7 +37,8 @@ log_fits writes items = nat_le (total_cost items) log_room && nat_lt (writes + l
 -- the groups with one more, if it is spelled and fits
 abbrev pub with_group : ℕ → List (List Item) → Option (List Item) → Option (List (List Item))
 with_group writes groups None = None
-with_group writes groups (Some items) = let more = groups ++ items ∷ [] in if log_fits writes (items_in more) then Some more else None
+with_group writes groups (Some items) =
+    let more = groups ++ items ∷ [] in if log_fits writes (items_in more) then Some more else None
 
 -- what is read with these groups, or the block that is damaged where there are none
 abbrev pub read_with : {A : Type 0} → Option (List (List Item)) → ℕ → (List (List Item) → Result A ℕ) → Result A ℕ
@@ -48,7 +50,8 @@ unfoldable pub log_from : Geometry → Image → ℕ → ℕ → ℕ → ℕ →
 log_from g image b writes i zero groups = Ok groups
 log_from g image b writes i (suc n) groups =
     if is_open (block_at image (log_gate g b i))
-    then read_with (with_group writes groups (group_on (block_at image (log_content g b i)))) (log_content g b i) (λ more. log_from g image b writes (i + 1) n more)
+    then read_with (with_group writes groups (group_on (block_at image (log_content g b i)))) (log_content g b i)
+    (λ more. log_from g image b writes (i + 1) n more)
     else closed_from (first_open image (log_gate g b) (i + 1) n) groups
 
 -- the groups of the open gates of a log area, or the first damaged block

@@ -1,7 +1,8 @@
 -- The regions of a device, and which blocks each has.
 use Rattle.std.specs.Prelude.{ℕ, ◌+◌, ◌<◌, ◌≤◌}
 use Rattle.lt_format.specs.declared.geometry.Geometry.{Geometry}
-use Rattle.lt_format.specs.Layout.{selector_block, area_block, snapshot_blocks, edit_gate, edit_slots, log_gate, extent_block, extent_blocks}
+use Rattle.lt_format.specs.Layout.{selector_block, area_block, snapshot_blocks, edit_gate, edit_slots, log_gate}
+use Rattle.lt_format.specs.Layout.{extent_block, extent_blocks}
 
 -- The numbers are the area and the slot; an extent has one. A slot is a gate and its content.
 pub data Region : Type 0 where

@@ -1,6 +1,9 @@
 -- The snapshot in a manifest area: its spelling, and reading it with the first field that does not stand.
--- An area is read as a function from offsets to bytes, since its fields run across blocks and most of its 305 blocks are not looked at.
-use Rattle.std.specs.Prelude.{ℕ, zero, suc, ◌+◌, ◌-◌, ◌*◌, ◌/◌, ◌%◌, ◌^◌, ◌<◌, Bool, true, not, ◌&&◌, List, [], ◌∷◌, ◌++◌, length, map, Option, Some, None, Result, Ok, Err, nat_le, nat_lt, ◌==◌, if◌then◌else◌, slice_index, slice_range, IsTrue}
+-- An area is read as a function from offsets to bytes, since its fields run across blocks and most of its 305
+-- blocks are not looked at.
+use Rattle.std.specs.Prelude.{ℕ, zero, suc, ◌+◌, ◌-◌, ◌*◌, ◌/◌, ◌%◌, ◌^◌, ◌<◌, Bool, true, not, ◌&&◌, List, [], ◌∷◌}
+use Rattle.std.specs.Prelude.{◌++◌, length, map, Option, Some, None, Result, Ok, Err, nat_le, nat_lt, ◌==◌}
+use Rattle.std.specs.Prelude.{if◌then◌else◌, slice_index, slice_range, IsTrue}
 use Rattle.std.specs.Int.{Width, w8, w16, w32, w64, byte_len, from_be_bytes}
 use Rattle.std.specs.List.{flat_map, range_with_len}
 use Rattle.std.specs.Ordering.{is_lt}
@@ -23,7 +26,9 @@ numbers ns = flat_map u32 ns
 
 -- the entry of a node
 abbrev pub node_bytes : NodeId × Node → List ℕ
-node_bytes (id, n) = id.level ∷ [] ++ u16 id.number ++ u32 n.base ++ u32 (length n.tables) ++ u32 (length n.groups) ++ numbers n.tables ++ numbers n.groups
+node_bytes (id, n) =
+    id.level ∷ [] ++ u16 id.number ++ u32 n.base ++ u32 (length n.tables) ++ u32 (length n.groups)
+    ++ numbers n.tables ++ numbers n.groups
 
 -- the entries of a trie's nodes
 abbrev pub nodes_bytes : Trie → List ℕ
@@ -53,7 +58,8 @@ abbrev pub ◌>>=◌ : {A B : Type 0} → Result A ℕ → (A → Result B ℕ) 
 abbrev pub number_in : Width → (ℕ → ℕ) → ℕ → ℕ
 number_in w bytes at = from_be_bytes w (map (λ i. bytes (at + i)) (range_with_len 0 (byte_len w)))
 
--- What reading answers is a value and the offset after it, or the offset of the first field that does not stand. A field stands where it ends at the limit or before, and passes its test.
+-- What reading answers is a value and the offset after it, or the offset of the first field that does not stand. A
+-- field stands where it ends at the limit or before, and passes its test.
 abbrev pub field : (ℕ → ℕ) → ℕ → Width → (ℕ → Bool) → ℕ → Result (ℕ × ℕ) ℕ
 field bytes limit w stands at =
     let n = number_in w bytes at in
@@ -76,13 +82,16 @@ follows (Some before) id = is_lt (node_cmp before id)
 unfoldable pub node_read : (ℕ → ℕ) → ℕ → ℕ → ℕ → Option NodeId → List ℕ → ℕ → Result ((NodeId × Node) × ℕ) ℕ
 node_read bytes limit levels extents last_id before at = do
   level ← field bytes limit w8 (λ l. nat_lt l levels) at
-  number ← field bytes limit w16 (λ n. nat_lt n (8 ^ level.0) && follows last_id (record { level = level.0; number = n })) level.1
+  number ← field bytes limit w16 (λ n. nat_lt n (8 ^ level.0)
+      && follows last_id (record { level = level.0; number = n })) level.1
   base ← field bytes limit w32 (λ m. nat_le m (if level.0 + 1 == levels then extents else 0)) number.1
   tables_len ← field bytes limit w32 (λ t. nat_le 1 t && nat_le t extents) base.1
-  groups_len ← field bytes limit w32 (λ g. g == (if level.0 + 1 == levels then groups_for tables_len.0 else 0)) tables_len.1
+  groups_len ← field bytes limit w32 (λ g. g ==
+      (if level.0 + 1 == levels then groups_for tables_len.0 else 0)) tables_len.1
   tables ← extents_at bytes limit extents tables_len.0 before groups_len.1
   groups ← extents_at bytes limit extents groups_len.0 (tables.0 ++ before) tables.1
-  Ok ((record { level = level.0; number = number.0 }, record { base = base.0; tables = tables.0; groups = groups.0 }), groups.1)
+  let node : Node = record { base = base.0; tables = tables.0; groups = groups.0 } in
+      Ok ((record { level = level.0; number = number.0 }, node), groups.1)
 
 -- the name of a node
 abbrev pub id_of : NodeId × Node → NodeId
@@ -130,7 +139,8 @@ front_read g blocks bytes = do
   total ← field bytes 40 w32 (λ n. nat_le 40 n && nat_le n (40 + 19 * extents.0)) 20
   gap_high ← field bytes 40 w64 is_zero 24
   gap_low ← field bytes 40 w64 is_zero 32
-  Ok (record { header = record { log_area = area.0; extents = extents.0; writes = writes.0 }; nodes = nodes.0; total = total.0 })
+  let header : Header = record { log_area = area.0; extents = extents.0; writes = writes.0 } in
+      Ok (record { header = header; nodes = nodes.0; total = total.0 })
 
 -- the offset of the field that gives the length
 abbrev pub total_offset : ℕ

@@ -1,5 +1,6 @@
 -- The trie of piles as a value: its nodes that are not empty, by level and number.
-use Rattle.std.specs.Prelude.{ℕ, zero, suc, ◌+◌, ◌*◌, ◌/◌, ◌^◌, Bool, true, not, ◌&&◌, List, [], ◌∷◌, ◌++◌, length, nat_le, nat_lt, ◌==◌, if◌then◌else◌, IsTrue}
+use Rattle.std.specs.Prelude.{ℕ, zero, suc, ◌+◌, ◌*◌, ◌/◌, ◌^◌, Bool, true, not, ◌&&◌, List, [], ◌∷◌, ◌++◌, length}
+use Rattle.std.specs.Prelude.{nat_le, nat_lt, ◌==◌, if◌then◌else◌, IsTrue}
 use Rattle.std.specs.declared.cmp.Ordering.{Ordering}
 use Rattle.std.specs.Ordering.{ordering_then, nat_cmp, eq_by_cmp}
 use Rattle.std.specs.FinMap.{find, put, is_sorted}
@@ -63,7 +64,9 @@ node_at trie id = unwrap_or (find node_cmp id trie) empty_node
 
 -- the trie with this node under this name; a node without tables leaves it
 unfoldable pub with_node : Trie → NodeId → Node → Trie
-with_node trie id node = if length node.tables == 0 then where_key node_cmp (λ x. not (same_node id x)) trie else put node_cmp id node trie
+with_node trie id node =
+    if length node.tables == 0 then where_key node_cmp (λ x. not (same_node id x)) trie
+    else put node_cmp id node trie
 
 -- the extents that a node names
 abbrev pub node_extents : Node → List ℕ
@@ -100,6 +103,7 @@ is_shaped levels extents id n =
 -- what a trie with these levels in a store of these extents is
 pub record IsTrie (levels extents : ℕ) (trie : Trie) : Type 0 where
   pub rising : IsTrue (is_sorted node_cmp trie)
-  pub nodes : IsTrue (list_all (λ (e : NodeId × Node). is_node levels e.0 && nat_le 1 (length e.1.tables) && is_shaped levels extents e.0 e.1) trie)
+  pub nodes : IsTrue (list_all (λ (e : NodeId × Node). is_node levels e.0 && nat_le 1 (length e.1.tables)
+      && is_shaped levels extents e.0 e.1) trie)
   pub distinct : IsTrue (all_distinct (named trie))
   pub below : IsTrue (all_below extents (named trie))

@@ -12,6 +12,8 @@ ghost use Rattle.lt_format.specs.Trie.{IsTrie};
 pub fn read_manifests_stand()
     ensures geometry { (image : Image) (n : Named) → manifest_of image ≡ Ok n → IsTrue (is_geometry n.geometry) }
     ensures area { (image : Image) (n : Named) → manifest_of image ≡ Ok n → n.manifest.header.log_area < 2 }
-    ensures extents { (image : Image) (n : Named) → manifest_of image ≡ Ok n → IsTrue (extents_stand n.geometry (length image) n.manifest.header.extents) }
-    ensures trie { (image : Image) (n : Named) → manifest_of image ≡ Ok n → IsTrie n.geometry.levels n.manifest.header.extents n.manifest.trie }
+    ensures extents { (image : Image) (n : Named) → manifest_of image ≡ Ok n
+        → IsTrue (extents_stand n.geometry (length image) n.manifest.header.extents) }
+    ensures trie { (image : Image) (n : Named) → manifest_of image ≡ Ok n
+        → IsTrie n.geometry.levels n.manifest.header.extents n.manifest.trie }
 {}

@@ -23,11 +23,10 @@ use Rattle.lt_image.specs.Opening.{Opened}
 use Rattle.lt_image.specs.Versions.{extent_in, items_at, stored_items}
 use Rattle.lt_image.specs.Soundness.{block_if, bad_in_table, bad_table_blocks, bad_group_blocks, bad_node_blocks, bad_blocks, filter_blocks}
 use Rattle.lt_image.specs.After.{SameExtent, SameExtents}
-use Rattle.lt_image.proofs.ListLaws.{all_left, all_right}
 use Rattle.lt_image.proofs.SoundLaws.{flat_map_nil, nil_flat_map, nil_append}
 use Rattle.lt_image.proofs.MapLaws.{same_items}
 use Rattle.lt_image.proofs.TableSoundLaws.{filter-range, same_bad_in_table, Holdable, placed-sound}
-use Rattle.lt_tables.proofs.ListLaws.{all_take, all_drop}
+use Rattle.lt_tables.proofs.ListLaws.{all_drop, all_left, all_right, all_take}
 
 -- the nodes of a trie have no bad block
 abbrev pub SoundNodes : Geometry → Image → Trie → Type 0

@@ -25,6 +25,7 @@ use Rattle.lt_format.specs.declared.node_id.NodeId.{NodeId}
 use Rattle.lt_format.specs.declared.geometry.Geometry.{Geometry}
 use Rattle.lt_format.specs.Trie.{Node, Trie, root, node_cmp, same_node, node_at, with_node, named, empty_node}
 use Rattle.lt_format.specs.Changes.{flush, appended, after_change}
+use Rattle.lt_format.proofs.FreeLaws.{no_list}
 use Rattle.lt_format.proofs.TrieLaws.{same_node-same, node_exact, find-below, below-less, where_key-below}
 use Rattle.lt_image.specs.Opening.{Opened, open_image, log_items, number_of}
 use Rattle.lt_image.specs.Versions.{extent_in, items_at, pile_items, level_nodes, level_items, items_above, stored_items}
@@ -161,24 +162,31 @@ gone_weight w id (e ∷ es) h = by_head (same_node id e.0) refl (gone_weight w i
         rw (where_key-below id es first) (omega arith)
     by_head false other rest = omega arith
 
--- a node in place of the one before
-pub with_node-weight : (w : NodeId × Node → ℕ) (trie : Trie) (id : NodeId) (node : Node) → is_sorted node_cmp trie ≡ true → w (id, empty_node) ≡ 0 → total w (with_node trie id node) + w (id, node_at trie id) ≤ total w trie + w (id, node)
+-- a node in place of the one before, where one without tables counts nothing
+pub with_node-weight : (w : NodeId × Node → ℕ) (trie : Trie) (id : NodeId) (node : Node) → is_sorted node_cmp trie ≡ true → ((n : Node) → n.tables ≡ [] → w (id, n) ≡ 0) → total w (with_node trie id node) + w (id, node_at trie id) ≡ total w trie + w (id, node)
 unfolding with_node node_at
-with_node-weight w trie id node h none = by_tables (length node.tables == 0)
+with_node-weight w trie id node h none = by_tables (length node.tables == 0) refl
   where
     found_is : (o : Option Node) → found_weight w id o ≡ w (id, unwrap_or o empty_node)
-    found_is None = sym none
+    found_is None = sym (none empty_node refl)
     found_is (Some n) = refl
 
-    by_tables : (gone : Bool) → total w (cond gone (where_key node_cmp (λ q. not (same_node id q)) trie) (put node_cmp id node trie)) + w (id, unwrap_or (find node_cmp id trie) empty_node) ≤ total w trie + w (id, node)
-    by_tables true = omega (arith, gone_weight w id trie h, found_is (find node_cmp id trie))
-    by_tables false = omega (arith, put_weight w id node trie h, found_is (find node_cmp id trie))
+    by_tables : (gone : Bool) → (length node.tables == 0) ≡ gone → total w (cond gone (where_key node_cmp (λ q. not (same_node id q)) trie) (put node_cmp id node trie)) + w (id, unwrap_or (find node_cmp id trie) empty_node) ≡ total w trie + w (id, node)
+    by_tables true is = omega (arith, gone_weight w id trie h, found_is (find node_cmp id trie), none node (no_list node.tables is))
+    by_tables false is = omega (arith, put_weight w id node trie h, found_is (find node_cmp id trie))
 
 -- ---- the stored items, node by node
 
 -- what a node of the first levels holds
 abbrev pub held_by : Geometry → Image → ℕ → NodeId × Node → ℕ
 held_by g image levels e = cond (nat_lt e.0.level levels) (length (pile_items g image e.1.tables)) 0
+
+pub held_none : (g : Geometry) (image : Image) (levels : ℕ) (id : NodeId) (n : Node) → n.tables ≡ [] → held_by g image levels (id, n) ≡ 0
+held_none g image levels id n none = by_level (nat_lt id.level levels)
+  where
+    by_level : (b : Bool) → cond b (length (pile_items g image n.tables)) 0 ≡ 0
+    by_level true = ap (λ ts. length (pile_items g image ts)) none
+    by_level false = refl
 
 level_long : (g : Geometry) (image : Image) (trie : Trie) (level : ℕ) → length (level_items g image trie level) ≡ total (λ (e : NodeId × Node). cond (e.0.level == level) (length (pile_items g image e.1.tables)) 0) trie
 level_long g image [] level = refl
@@ -234,11 +242,10 @@ unfolding after_change
 after_flush g image trie tables deep rising =
     let before : Node = node_at trie root in
     let first : nat_lt 0 g.levels ≡ true = lt-ltb 0 g.levels (omega arith) in
-    let empty : held_by g image g.levels (root, empty_node) ≡ 0 = rw first refl in
     let here : held_by g image g.levels (root, before) ≡ length (pile_items g image before.tables) = rw first refl in
     let there : held_by g image g.levels (root, appended before tables) ≡ length (pile_items g image before.tables) + length (pile_items g image tables) =
     rw first (ap length (flat_map-append (items_at g image) before.tables tables) ∙ length-append (pile_items g image before.tables) (pile_items g image tables)) in
-    omega (arith, above_long g image (with_node trie root (appended before tables)) g.levels, above_long g image trie g.levels, with_node-weight (held_by g image g.levels) trie root (appended before tables) rising empty, here, there)
+    omega (arith, above_long g image (with_node trie root (appended before tables)) g.levels, above_long g image trie g.levels, with_node-weight (held_by g image g.levels) trie root (appended before tables) rising (held_none g image g.levels root), here, there)
 
 -- THE STORED ITEMS after a flush are at most the writes of the image before
 pub flushed-few : (old new : Image) (o p : Opened) (tables : List ℕ) → open_image old ≡ Ok o → bad_blocks o old ≡ [] → Follows o p old new (flush tables) → PlacedIn o.named.geometry new tables (cut (newest (log_items o))) → length (stored_items p new) ≤ number_of o

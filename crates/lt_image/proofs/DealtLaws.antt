@@ -65,7 +65,7 @@ pub path_number-suc : (key : List ℕ) (level : ℕ) → path_number key (suc le
 unfolding path_number
 path_number-suc key level = refl
 
-digit_small : (key : List ℕ) (level : ℕ) → key_digit key level < 8
+pub digit_small : (key : List ℕ) (level : ℕ) → key_digit key level < 8
 digit_small key level = omega arith
 
 -- the parent of a node on a path is on the path

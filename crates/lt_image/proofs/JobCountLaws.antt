@@ -1,5 +1,5 @@
 -- How many items tables hold after a deal and a rewriting: no more than before. So an image stands after them for what it stood for.
-use Rattle.std.proofs.Common.{◌≡◌, ℕ, zero, suc, ◌+◌, ◌*◌, ◌<◌, ◌≤◌, refl, sym, ap, ◌∙◌, List, [], ◌∷◌, ◌++◌, length, take, drop, Bool, true, false, cond, Ok, arith, take-append-drop}
+use Rattle.std.proofs.Common.{◌≡◌, ℕ, zero, suc, ◌+◌, ◌*◌, ◌<◌, ◌≤◌, sym, ap, ◌∙◌, List, [], ◌∷◌, ◌++◌, length, take, drop, Bool, true, false, cond, Ok, arith, take-append-drop}
 use Rattle.std.specs.Prelude.{◌==◌, nat_lt}
 use Rattle.std.specs.FinMap.{is_sorted}
 use Rattle.std.specs.List.{filter, flat_map, fold, AllZip}
@@ -22,11 +22,11 @@ use Rattle.lt_format.specs.Changes.{ChildChange, deal, rewrite, fits, child_afte
 use Rattle.lt_format.specs.Log.{items_in}
 use Rattle.lt_format.specs.Naming.{may_commit, log_moves, after_commit}
 use Rattle.lt_format.specs.Snapshot.{Manifest}
-use Rattle.lt_format.specs.Trie.{Node, Trie, node_cmp, node_at, with_node, named, empty_node, is_last_level, IsTrie}
+use Rattle.lt_format.specs.Trie.{Node, Trie, node_cmp, node_at, with_node, named, is_last_level, IsTrie}
 use Rattle.lt_format.proofs.ChildLaws.{children-elsewhere}
+use Rattle.lt_format.proofs.FreeLaws.{bare_inner}
 use Rattle.lt_format.proofs.NamedLaws.{children-rising}
 use Rattle.lt_format.proofs.ReadLaws.{manifest_of-named}
-use Rattle.lt_format.proofs.ShapeLaws.{node_at-shaped, shaped-inner}
 use Rattle.lt_format.proofs.TrieLaws.{with_node-rising}
 use Rattle.lt_image.specs.After.{SameExtent, SameExtents, Gets, Deals, Rewrites}
 use Rattle.lt_image.specs.Opening.{Opened, open_image, log_items, number_of}
@@ -34,7 +34,7 @@ use Rattle.lt_image.specs.Shares.{child_share, has_tables, deal_shares, rewrite_
 use Rattle.lt_image.specs.Soundness.{bad_blocks}
 use Rattle.lt_image.specs.Standing.{Stands}
 use Rattle.lt_image.specs.Versions.{items_at, pile_items, items_above, stored_items}
-use Rattle.lt_image.proofs.CountLaws.{newest-few, spread, spread_few, parts_few, with_node-weight, held_by, above_long}
+use Rattle.lt_image.proofs.CountLaws.{newest-few, spread, spread_few, parts_few, with_node-weight, held_by, held_none, above_long}
 use Rattle.lt_image.proofs.JobLaws.{deal-sound, deal-keeps, rewrite-sound, rewrite-keeps}
 use Rattle.lt_image.proofs.KeptLaws.{items_above-same, pile_same, stored-few}
 use Rattle.lt_image.proofs.MapLaws.{named-tables}
@@ -48,13 +48,6 @@ pile_count g image tables = length (pile_items g image tables)
 
 abbrev given_count : Geometry → Image → List ChildChange → ℕ
 given_count g image children = total (λ (c : ChildChange). pile_count g image c.tables) children
-
-held_none : (g : Geometry) (image : Image) (levels : ℕ) (id : NodeId) → held_by g image levels (id, empty_node) ≡ 0
-held_none g image levels id = by_level (nat_lt id.level levels)
-  where
-    by_level : (b : Bool) → cond b (length (pile_items g image [])) 0 ≡ 0
-    by_level true = refl
-    by_level false = refl
 
 piles_join : (g : Geometry) (image : Image) (xs ys : List ℕ) → pile_count g image (xs ++ ys) ≡ pile_count g image xs + pile_count g image ys
 piles_join g image xs ys = ap length (flat_map-append (items_at g image) xs ys) ∙ length-append (pile_items g image xs) (pile_items g image ys)
@@ -123,27 +116,27 @@ after_deal g image trie id dropped children is rising =
 same_oldest : (g : Geometry) (old new : Image) (trie : Trie) (id : NodeId) (n : ℕ) → SameExtents g old new (named trie) → pile_items g new (take n (node_at trie id).tables) ≡ pile_items g old (take n (node_at trie id).tables)
 same_oldest g old new trie id n same = pile_same g old new (take n (node_at trie id).tables) (all_take (SameExtent g old new) n (node_at trie id).tables (named-tables (SameExtent g old new) trie id same))
 
-pub dealt-few : (o p : Opened) (old new : Image) (id : NodeId) (dropped : ℕ) (children : List ChildChange) → is_sorted node_cmp o.named.manifest.trie ≡ true → bad_blocks o old ≡ [] → Deals o p old new id dropped children → length (stored_items p new) ≤ p.named.manifest.header.writes
-dealt-few o p old new id dropped children rising sound f =
+dealt_fewer : (o p : Opened) (old new : Image) (id : NodeId) (dropped : ℕ) (children : List ChildChange) → is_sorted node_cmp o.named.manifest.trie ≡ true → Deals o p old new id dropped children → length (stored_items p new) ≤ length (stored_items o old)
+dealt_fewer o p old new id dropped children rising f =
     let g : Geometry = o.named.geometry in
     let trie : Trie = o.named.manifest.trie in
     let items : List Item = pile_items g old (take dropped (node_at trie id).tables) in
     let stored : length (stored_items p new) ≡ length (items_above g new (after_change trie (deal id dropped children)) g.levels) = (λ i. length (items_above (f.follows.geometry i) new (f.follows.trie i) (f.follows.geometry i).levels)) in
     let same : length (items_above g new trie g.levels) ≡ length (stored_items o old) = ap length (items_above-same g old new trie g.levels f.follows.kept) in
     let taken : pile_count g new (take dropped (node_at trie id).tables) ≡ length items = ap length (same_oldest g old new trie id dropped f.follows.kept) in
-    let writes : p.named.manifest.header.writes ≡ o.named.manifest.header.writes = f.writes in
     omega (
       arith,
       stored,
       same,
       taken,
-      writes,
       after_deal g new trie id dropped children (fits-deal g.levels trie id dropped children f.fit) rising,
       given_few g new trie id (newest items) 0 8 children f.given,
       spread_few (λ v. key_digit v.key id.level) (newest items) 0 8,
       newest-few items,
-      stored-few o old sound,
     )
+
+few_still : (o p : Opened) (old new : Image) → p.named.manifest.header.writes ≡ o.named.manifest.header.writes → bad_blocks o old ≡ [] → length (stored_items p new) ≤ length (stored_items o old) → length (stored_items p new) ≤ p.named.manifest.header.writes
+few_still o p old new writes sound fewer = omega (arith, writes, fewer, stored-few o old sound)
 
 -- ---- a rewriting
 
@@ -172,8 +165,8 @@ after_rewrite g image trie id tables groups within rising =
       with_node-weight (held_by g image g.levels) trie id after rising (held_none g image g.levels id),
     )
 
-pub rewritten-few : (o p : Opened) (old new : Image) (id : NodeId) (tables groups : List ℕ) → is_sorted node_cmp o.named.manifest.trie ≡ true → bad_blocks o old ≡ [] → Rewrites o p old new id tables groups → length (stored_items p new) ≤ p.named.manifest.header.writes
-rewritten-few o p old new id tables groups rising sound f =
+rewritten_fewer : (o p : Opened) (old new : Image) (id : NodeId) (tables groups : List ℕ) → is_sorted node_cmp o.named.manifest.trie ≡ true → Rewrites o p old new id tables groups → length (stored_items p new) ≤ length (stored_items o old)
+rewritten_fewer o p old new id tables groups rising f =
     let g : Geometry = o.named.geometry in
     let trie : Trie = o.named.manifest.trie in
     let items : List Item = pile_items g old (node_at trie id).tables in
@@ -183,19 +176,16 @@ rewritten-few o p old new id tables groups rising sound f =
     let same : length (items_above g new trie g.levels) ≡ length (stored_items o old) = ap length (items_above-same g old new trie g.levels f.follows.kept) in
     let taken : pile_count g new (node_at trie id).tables ≡ length items = ap length (pile_same g old new (node_at trie id).tables (named-tables (SameExtent g old new) trie id f.follows.kept)) in
     let whole : length (flat_map (λ part. part) (cut puts)) ≡ length puts = ap length (cut-joined puts) in
-    let writes : p.named.manifest.header.writes ≡ o.named.manifest.header.writes = f.writes in
     omega (
       arith,
       stored,
       same,
       taken,
       whole,
-      writes,
       after_rewrite g new trie id tables groups (omega arith) rising,
       parts_few g new tables (cut puts) f.given.placed,
       filter_few is_put (newest items),
       newest-few items,
-      stored-few o old sound,
     )
 
 -- ---- what an image stands for
@@ -204,12 +194,13 @@ rewritten-few o p old new id tables groups rising sound f =
 pub opens-trie : (image : Image) (o : Opened) → open_image image ≡ Ok o → IsTrie o.named.geometry.levels o.named.manifest.header.extents o.named.manifest.trie
 opens-trie image o h = (manifest_of-named image o.named (opens-is image o h).named).read.trie
 
-no_list : {A : Type 0} (xs : List A) → length xs ≡ 0 → xs ≡ []
-no_list [] h = refl
-no_list (x ∷ xs) h = absurd (omega arith)
+-- A DEAL stores no more items than there were
+pub deal-fewer : (old new : Image) (o p : Opened) (id : NodeId) (dropped : ℕ) (children : List ChildChange) → open_image old ≡ Ok o → Deals o p old new id dropped children → length (stored_items p new) ≤ length (stored_items o old)
+deal-fewer old new o p id dropped children opens f = dealt_fewer o p old new id dropped children (opens-trie old o opens).rising f
 
-bare_inner : (levels extents : ℕ) (trie : Trie) (id : NodeId) → IsTrie levels extents trie → is_last_level levels id ≡ false → (node_at trie id).groups ≡ []
-bare_inner levels extents trie id t inner = no_list (node_at trie id).groups (shaped-inner levels extents id (node_at trie id) inner (node_at-shaped levels extents trie id t.nodes)).1
+-- A REWRITING too
+pub rewrite-fewer : (old new : Image) (o p : Opened) (id : NodeId) (tables groups : List ℕ) → open_image old ≡ Ok o → Rewrites o p old new id tables groups → length (stored_items p new) ≤ length (stored_items o old)
+rewrite-fewer old new o p id tables groups opens f = rewritten_fewer o p old new id tables groups (opens-trie old o opens).rising f
 
 deeper : (levels : ℕ) (id : NodeId) → id.level < levels → is_last_level levels id ≡ false → suc id.level < levels
 deeper levels id within inner = let apart : id.level + 1 ≡ levels → ⊥ = eqb-false (id.level + 1) levels inner in by_less apart
@@ -227,7 +218,7 @@ deal-stands old new o p id dropped children s opens_old opens_new st f =
     let t = opens-trie old o opens_old in
     let is = fits-deal o.named.geometry.levels o.named.manifest.trie id dropped children f.fit in
     let bare = bare_inner o.named.geometry.levels o.named.manifest.header.extents o.named.manifest.trie id t is.inner in
-    let few = dealt-few o p old new id dropped children t.rising before.sound f in
+    let few = few_still o p old new f.writes before.sound (dealt_fewer o p old new id dropped children t.rising f) in
     as-stands new p s opens_new (record {
       sound = deal-sound o p old new id dropped children f t bare few before.sound;
       map = deal-keeps o p old new id dropped children f t bare few (deeper o.named.geometry.levels id is.within is.inner) before.sound ∙ before.map;
@@ -239,7 +230,7 @@ pub rewrite-stands : (old new : Image) (o p : Opened) (id : NodeId) (tables grou
 rewrite-stands old new o p id tables groups s opens_old opens_new st f =
     let before = stands-as old o s opens_old st in
     let t = opens-trie old o opens_old in
-    let few = rewritten-few o p old new id tables groups t.rising before.sound f in
+    let few = few_still o p old new f.writes before.sound (rewritten_fewer o p old new id tables groups t.rising f) in
     as-stands new p s opens_new (record {
       sound = rewrite-sound o p old new id tables groups f t few before.sound;
       map = rewrite-keeps o p old new id tables groups f t few before.sound ∙ before.map;

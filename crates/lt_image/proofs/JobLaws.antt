@@ -6,7 +6,7 @@ use Rattle.lt_terms.specs.Bytes.{Image}
 use Rattle.lt_terms.specs.Items.{Item}
 use Rattle.lt_terms.specs.Hashes.{key_digit}
 use Rattle.lt_tables.specs.Merge.{newest, with_digit, without_deletes, is_put}
-use Rattle.lt_tables.proofs.ListLaws.{all_take, all_filter}
+use Rattle.lt_tables.proofs.ListLaws.{all_filter, all_left, all_right, all_take}
 use Rattle.lt_tables.proofs.PartLaws.{ranked-filter}
 use Rattle.lt_tables.proofs.RankedLaws.{newest-ranked, each_newest}
 use Rattle.lt_tables.proofs.ValidLaws.{AllValid, AllValid-flat_map, table_items-valid}
@@ -22,7 +22,6 @@ use Rattle.lt_image.specs.After.{Deals, Rewrites, IsGroupAt}
 use Rattle.lt_image.proofs.AfterLaws.{NewTable, node_at-holds, sound_by_nodes, sound_nodes}
 use Rattle.lt_image.proofs.DealtLaws.{IsChild, children_fit-children, dealt_to, path_number-suc}
 use Rattle.lt_image.proofs.GroupLaws.{NewChild, deal-nodes, rewrite-nodes}
-use Rattle.lt_image.proofs.ListLaws.{all_left, all_right}
 use Rattle.lt_image.proofs.MoveMapLaws.{deal-map, rewrite-map}
 use Rattle.lt_image.proofs.PathLaws.{Belongs-pile}
 use Rattle.lt_image.proofs.ShareLaws.{KeepsFull, fits-deal, fits-rewrite, by_digit, deal-grouped, children-keep, children_fit-apart}

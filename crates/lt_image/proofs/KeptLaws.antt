@@ -10,6 +10,7 @@ use Rattle.lt_terms.specs.Bytes.{Image}
 use Rattle.lt_terms.specs.Items.{Item}
 use Rattle.lt_terms.specs.Maps.{empty_map, applied, after_items}
 use Rattle.lt_language.specs.Machine.{State, nothing_yet, after_write}
+use Rattle.lt_tables.proofs.ListLaws.{all_left, all_right}
 use Rattle.lt_format.specs.declared.node_id.NodeId.{NodeId}
 use Rattle.lt_format.specs.declared.geometry.Geometry.{Geometry}
 use Rattle.lt_format.specs.Layout.{area_block}
@@ -20,7 +21,6 @@ use Rattle.lt_image.specs.Versions.{extent_in, pile_items, level_nodes, level_it
 use Rattle.lt_image.specs.Soundness.{bad_node_blocks, bad_blocks}
 use Rattle.lt_image.specs.Standing.{Stands, after_writes}
 use Rattle.lt_image.specs.After.{SameExtent, SameExtents, Keeps}
-use Rattle.lt_image.proofs.ListLaws.{all_left, all_right}
 use Rattle.lt_image.proofs.SoundLaws.{nil_append, nil_block_if}
 use Rattle.lt_image.proofs.MapLaws.{same_items}
 use Rattle.lt_image.proofs.AfterLaws.{SoundNodes, kept-nodes, sound_by_nodes, sound_nodes}

@@ -1,5 +1,4 @@
 pub mod Words
-pub mod ListLaws
 pub mod ChangeLaws
 pub mod PathLaws
 pub mod SoundLaws
@@ -28,3 +27,6 @@ pub mod PressureLaws
 pub mod SlackLaws
 pub mod FewLaws
 pub mod GroupAnswerLaws
+pub mod TakeLaws
+pub mod EndLaws
+pub mod ExampleLaws

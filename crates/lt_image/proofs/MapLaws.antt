@@ -16,6 +16,7 @@ use Rattle.lt_tables.proofs.FitLaws.{all_weaker}
 use Rattle.lt_tables.proofs.TableLaws.{flat_map-range}
 use Rattle.lt_tables.proofs.NewestLaws.{SameNewest-refl}
 use Rattle.lt_tables.proofs.VersionLaws.{get_versions}
+use Rattle.lt_tables.proofs.ListLaws.{all_left, all_right}
 use Rattle.lt_format.specs.declared.node_id.NodeId.{NodeId}
 use Rattle.lt_format.specs.declared.geometry.Geometry.{Geometry}
 use Rattle.lt_format.specs.Trie.{Node, Trie, node_cmp, node_at, named, node_extents, empty_node}
@@ -24,7 +25,6 @@ use Rattle.lt_image.specs.Opening.{Opened, log_items}
 use Rattle.lt_image.specs.Versions.{extent_in, items_at, versions, map_of}
 use Rattle.lt_image.proofs.Words.{IsSorted, on_level, on_path}
 use Rattle.lt_image.specs.After.{SameExtents, Follows}
-use Rattle.lt_image.proofs.ListLaws.{all_left, all_right}
 use Rattle.lt_image.proofs.PathLaws.{newest_of-versions}
 use Rattle.lt_image.proofs.KeepLaws.{KeepsTables, flush-found}
 

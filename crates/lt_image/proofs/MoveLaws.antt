@@ -15,7 +15,7 @@ use Rattle.lt_format.specs.declared.node_id.NodeId.{NodeId}
 use Rattle.lt_format.specs.Trie.{Trie, child, path, same_node, node_at}
 use Rattle.lt_format.specs.Changes.{ChildChange, deal, rewrite, after_change}
 use Rattle.lt_format.proofs.TrieLaws.{same_node-same, same_node-itself}
-use Rattle.lt_image.proofs.DealtLaws.{IsChild, dealt_to, dealt_to-none, tables-deal, tables-rewrite, path-parent, path_number-suc}
+use Rattle.lt_image.proofs.DealtLaws.{IsChild, digit_small, dealt_to, dealt_to-none, tables-deal, tables-rewrite, path-parent, path_number-suc}
 use Rattle.lt_image.proofs.KeepLaws.{KeepsTables, kept_pile, other_level}
 use Rattle.lt_image.proofs.PathLaws.{newest_or-is}
 use Rattle.lt_image.proofs.Words.{on_level, on_path}
@@ -96,9 +96,6 @@ parts_of_pile old trie id dropped key is =
     ∙ ap (newest_of key) (flat_map-append old (take dropped ts) (drop dropped ts))
     ∙ newest_of-append key (flat_map old (take dropped ts)) (flat_map old (drop dropped ts))
     ∙ newest_or-is (newest_of key (flat_map old (take dropped ts))) (newest_of key (flat_map old (drop dropped ts)))
-
-digit_small : (key : List ℕ) (level : ℕ) → key_digit key level < 8
-digit_small key level = omega arith
 
 deal_below : (old new : ℕ → List Item) (trie : Trie) (id : NodeId) (dropped : ℕ) (children : List ChildChange) (key : List ℕ) → KeepsTables old new trie → DealsOut old new trie id dropped children → path key id.level ≡ id
     → on_level new (after_change trie (deal id dropped children)) key (suc id.level) ≡ option_or (newest_of key (flat_map old (take dropped (node_at trie id).tables))) (on_level old trie key (suc id.level))

@@ -3,6 +3,7 @@ use Rattle.std.proofs.Common.{◌≡◌, ◌+◌, refl, ap, [], ◌∷◌, lengt
 use Rattle.std.specs.Prelude.{nat_lt}
 use Rattle.std.specs.List.{list_all}
 use Rattle.lt_terms.specs.Bytes.{Image}
+use Rattle.lt_tables.proofs.ListLaws.{all_left, all_right}
 use Rattle.lt_format.specs.declared.node_id.NodeId.{NodeId}
 use Rattle.lt_format.specs.Naming.{Named}
 use Rattle.lt_format.specs.Trie.{Node, Trie, named, node_at, node_extents, is_last_level}
@@ -11,7 +12,6 @@ use Rattle.lt_image.specs.Needs.{is_full, is_twice_full, node_items, has_slack, 
 use Rattle.lt_image.specs.Shares.{needed}
 use Rattle.lt_image.specs.Versions.{free_extents}
 use Rattle.lt_image.proofs.KeptLaws.{pile_same}
-use Rattle.lt_image.proofs.ListLaws.{all_left, all_right}
 use Rattle.lt_image.proofs.MapLaws.{named-tables}
 
 items_same : (m : Named) (old new : Image) (e : NodeId × Node) → SameExtents m.geometry old new e.1.tables → node_items m new e.1 ≡ node_items m old e.1
@@ -45,6 +45,9 @@ exhausted-same m old new same = λ i. settled-same m old new same i && all_same 
 
 pub node-waits-same : (m : Named) (old new : Image) (id : NodeId) → SameExtents m.geometry old new (named m.manifest.trie) → waits m new (id, node_at m.manifest.trie id) ≡ waits m old (id, node_at m.manifest.trie id)
 node-waits-same m old new id same = waits-same m old new (id, node_at m.manifest.trie id) (named-tables (SameExtent m.geometry old new) m.manifest.trie id same)
+
+pub node-needs-same : (m : Named) (old new : Image) (id : NodeId) → SameExtents m.geometry old new (named m.manifest.trie) → needed m.geometry.levels m.manifest.trie id (node_items m new (node_at m.manifest.trie id)) ≡ needed m.geometry.levels m.manifest.trie id (node_items m old (node_at m.manifest.trie id))
+node-needs-same m old new id same = ap (needed m.geometry.levels m.manifest.trie id) (items_same m old new (id, node_at m.manifest.trie id) (named-tables (SameExtent m.geometry old new) m.manifest.trie id same))
 
 pub node-slack-same : (m : Named) (old new : Image) (id : NodeId) → SameExtents m.geometry old new (named m.manifest.trie) → is_slack m new (id, node_at m.manifest.trie id) ≡ is_slack m old (id, node_at m.manifest.trie id)
 node-slack-same m old new id same = slack-same m old new (id, node_at m.manifest.trie id) (named-tables (SameExtent m.geometry old new) m.manifest.trie id same)

@@ -1,5 +1,5 @@
 -- A pile that was rewritten has no slack.
-use Rattle.std.proofs.Common.{◌≡◌, ℕ, suc, ◌+◌, ◌-◌, ◌/◌, ◌≤◌, refl, sym, ap, subst, ◌∙◌, List, [], ◌∷◌, ◌++◌, length, Bool, true, false, not, cond, ◌&&◌, ◌||◌, Option, Some, None, arith}
+use Rattle.std.proofs.Common.{◌≡◌, ℕ, suc, ◌+◌, ◌-◌, ◌/◌, ◌≤◌, refl, sym, ap, subst, ◌∙◌, List, [], ◌∷◌, ◌++◌, length, Bool, true, false, not, cond, ◌&&◌, ◌||◌, None, arith}
 use Rattle.std.specs.Prelude.{T, ◌==◌, nat_lt}
 use Rattle.std.specs.List.{flat_map, filter, list_any, last_or, AllByRecursion, sum_by}
 use Rattle.std.specs.Option.{option_to_list}
@@ -29,6 +29,7 @@ use Rattle.lt_image.specs.After.{Gets, PlacedIn}
 use Rattle.lt_image.specs.Needs.{has_slack, is_slack}
 use Rattle.lt_image.specs.Shares.{rewrite_share, deal_shares, share_extents, new_groups, needed}
 use Rattle.lt_image.specs.Versions.{extent_in, items_at, pile_items}
+use Rattle.lt_image.proofs.TableSoundLaws.{option_short}
 
 -- ---- each key once
 
@@ -48,10 +49,6 @@ piles_versions key g image (x ∷ tables) (p ∷ parts) r zip =
     filter-append (λ (v : Item). same_bytes v.key key) (items_at g image x) (pile_items g image tables)
     ∙ (λ i. placed_versions key p (extent_in g image x) r.0 zip.0 i ++ piles_versions key g image tables parts r.1 zip.1 i)
     ∙ sym (filter-append (λ (v : Item). same_bytes v.key key) p (flat_map (λ p. p) parts))
-
-one_of : (o : Option Item) → length (option_to_list o) ≤ 1
-one_of None = omega arith
-one_of (Some v) = omega arith
 
 -- no key twice
 none_twice : (items : List Item) → ((key : List ℕ) → length (versions_of key items) ≤ 1) → has_two_versions items ≡ false
@@ -114,13 +111,13 @@ no_delete (v ∷ items) p = ap (λ b. not b || list_any (λ v. not (is_put v)) i
 
 -- ---- a rewritten pile
 
-zip_count : (g : Geometry) (image : Image) (tables : List ℕ) (parts : List (List Item)) → PlacedIn g image tables parts → length tables ≡ length parts
+pub zip_count : (g : Geometry) (image : Image) (tables : List ℕ) (parts : List (List Item)) → PlacedIn g image tables parts → length tables ≡ length parts
 zip_count g image [] [] zip = refl
 zip_count g image [] (p ∷ parts) zip = absurd zip
 zip_count g image (x ∷ tables) [] zip = absurd zip
 zip_count g image (x ∷ tables) (p ∷ parts) zip = ap suc (zip_count g image tables parts zip.1)
 
-own_needed : (levels : ℕ) (trie : Trie) (id : NodeId) (items : List Item) → is_last_level levels id ≡ true → needed levels trie id items ≡ share_extents levels (rewrite_share id items)
+pub own_needed : (levels : ℕ) (trie : Trie) (id : NodeId) (items : List Item) → is_last_level levels id ≡ true → needed levels trie id items ≡ share_extents levels (rewrite_share id items)
 unfolding needed
 own_needed levels trie id items last =
     ap (λ b. sum_by (share_extents levels) (cond b (rewrite_share id items ∷ []) (deal_shares trie id items))) last
@@ -142,7 +139,7 @@ rewritten-slackless g image levels trie id items tables groups last count placed
     let versions : (key : List ℕ) → versions_of key after ≡ versions_of key puts = λ key. piles_versions key g image tables (cut puts) parts_ranked placed ∙ ap (versions_of key) (cut-joined puts) in
     let same : SameNewest after puts = record { each = λ key. ap (last_or None) (versions key) } in
     let again : without_deletes (newest after) ≡ puts = ap without_deletes (newest-alike after puts same ∙ ranked-newest puts ranked) ∙ filter_again is_put (newest items) in
-    let few : (key : List ℕ) → length (versions_of key after) ≤ 1 = λ key. subst (λ (vs : List Item). length vs ≤ 1) (sym (versions key ∙ once_versions key puts ranked)) (one_of (newest_of key puts)) in
+    let few : (key : List ℕ) → length (versions_of key after) ≤ 1 = λ key. subst (λ (vs : List Item). length vs ≤ 1) (sym (versions key ∙ once_versions key puts ranked)) (option_short (newest_of key puts)) in
     let many : length (cut (without_deletes (newest after))) ≡ length tables = ap (λ (vs : List Item). length (cut vs)) again ∙ sym (zip_count g image tables (cut puts) placed) in
     let fresh : new_groups levels (rewrite_share id after) ≡ groups_for (0 + length (cut (without_deletes (newest after)))) - 0 / 64 = ap (λ b. cond b (groups_for (0 + length (cut (without_deletes (newest after)))) - 0 / 64) 0) last in
     let wants : needed levels trie id after ≡ length (cut (without_deletes (newest after))) + new_groups levels (rewrite_share id after) = own_needed levels trie id after last in

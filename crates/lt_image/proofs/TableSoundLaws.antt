@@ -85,7 +85,7 @@ belongs_spread : (id : NodeId) (place : Item → ℕ) (xs : List Item) (cs : Lis
 belongs_spread id place xs [] b = tt
 belongs_spread id place xs (c ∷ cs) b = Belongs-append id (filter (λ v. place v == c) xs) (flat_map (λ c. filter (λ v. place v == c) xs) cs) (belongs_filter id (λ v. place v == c) xs b) (belongs_spread id place xs cs b)
 
-option_short : (o : Option Item) → length (option_to_list o) ≤ 1
+pub option_short : (o : Option Item) → length (option_to_list o) ≤ 1
 option_short None = omega arith
 option_short (Some v) = omega arith
 

@@ -22,7 +22,7 @@ use Rattle.lt_image.specs.Versions.{extent_in, pile_items, stored_items}
 abbrev pub SameExtent : Geometry → Image → Image → ℕ → Type 0
 SameExtent g old new x = (c : ℕ) → c < extent_blocks → extent_in g new x c ≡ extent_in g old x c
 
--- those of each of these extents
+-- the blocks of each of the extents are the same in both images
 abbrev pub SameExtents : Geometry → Image → Image → List ℕ → Type 0
 SameExtents g old new extents = AllByRecursion (SameExtent g old new) extents
 
@@ -40,7 +40,8 @@ pub record Keeps (o p : Opened) (old new : Image) : Type 0 where
 
 -- the blocks of the log area and of the extents that a manifest names are the same in both images
 pub record SameNamed (m : Named) (old new : Image) : Type 0 where
-  pub log : (n : ℕ) → log_gate m.geometry m.manifest.header.log_area 0 ≤ n → n < log_gate m.geometry m.manifest.header.log_area m.geometry.slots → block_at new n ≡ block_at old n
+  pub log : (n : ℕ) → log_gate m.geometry m.manifest.header.log_area 0 ≤ n
+      → n < log_gate m.geometry m.manifest.header.log_area m.geometry.slots → block_at new n ≡ block_at old n
   pub kept : SameExtents m.geometry old new (named m.manifest.trie)
 
 -- each extent holds the table of one part
@@ -56,19 +57,24 @@ pub record Flushes (o p : Opened) (old new : Image) (tables : List ℕ) : Type 0
 
 -- the extent is that of group number j of a pile: the transpose of its tables' filter blocks
 abbrev pub IsGroupAt : Geometry → Image → List ℕ → ℕ × ℕ → Type 0
-IsGroupAt g image tables p = IsGroup (filter_blocks g image (slice_range tables (64 * p.0) (64 * p.0 + 64))) (extent_in g image p.1)
+IsGroupAt g image tables p =
+    IsGroup (filter_blocks g image (slice_range tables (64 * p.0) (64 * p.0 + 64))) (extent_in g image p.1)
 
--- the node of a share gets it: the tables of its parts, and behind the groups that stay those of its pile
+-- the node of a share gets it: its new tables are placed for the share's parts, and its new groups are those of the
+-- pile that has the new tables behind the old ones
 pub record Gets (g : Geometry) (image : Image) (c : ChildChange) (s : Share) : Type 0 where
   pub node : c.node ≡ s.node
   pub placed : PlacedIn g image c.tables s.parts
   pub grouped : AllByRecursion (IsGroupAt g image (s.behind ++ c.tables)) (enumerate_from c.kept_groups c.groups)
 
 -- the children of a node got their shares of its oldest tables, which left its pile
-pub record Deals (o p : Opened) (old new : Image) (id : NodeId) (dropped : ℕ) (children : List ChildChange) : Type 0 where
+pub record Deals (o p : Opened) (old new : Image) (id : NodeId) (dropped : ℕ)
+    (children : List ChildChange) : Type 0 where
   pub follows : Follows o p old new (deal id dropped children)
   pub fit : IsTrue (fits o.named.geometry.levels o.named.manifest.trie (deal id dropped children))
-  pub given : AllZip (Gets o.named.geometry new) children (deal_shares o.named.manifest.trie id (pile_items o.named.geometry old (take dropped (node_at o.named.manifest.trie id).tables)))
+  pub given : AllZip (Gets o.named.geometry new) children
+      (deal_shares o.named.manifest.trie id
+      (pile_items o.named.geometry old (take dropped (node_at o.named.manifest.trie id).tables)))
   pub log : log_items p ≡ log_items o
   pub writes : p.named.manifest.header.writes ≡ o.named.manifest.header.writes
 
@@ -76,6 +82,7 @@ pub record Deals (o p : Opened) (old new : Image) (id : NodeId) (dropped : ℕ) 
 pub record Rewrites (o p : Opened) (old new : Image) (id : NodeId) (tables groups : List ℕ) : Type 0 where
   pub follows : Follows o p old new (rewrite id tables groups)
   pub fit : IsTrue (fits o.named.geometry.levels o.named.manifest.trie (rewrite id tables groups))
-  pub given : Gets o.named.geometry new (record { node = id; tables = tables; kept_groups = 0; groups = groups }) (rewrite_share id (pile_items o.named.geometry old (node_at o.named.manifest.trie id).tables))
+  pub given : Gets o.named.geometry new (record { node = id; tables = tables; kept_groups = 0; groups = groups })
+      (rewrite_share id (pile_items o.named.geometry old (node_at o.named.manifest.trie id).tables))
   pub log : log_items p ≡ log_items o
   pub writes : p.named.manifest.header.writes ≡ o.named.manifest.header.writes

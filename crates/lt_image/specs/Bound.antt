@@ -1,5 +1,6 @@
 -- How many blocks a get may read.
-use Rattle.std.specs.Prelude.{ℕ, suc, ◌+◌, ◌/◌, Bool, false, ◌&&◌, List, [], ◌∷◌, ◌++◌, map, count_by, nat_le, if◌then◌else◌}
+use Rattle.std.specs.Prelude.{ℕ, suc, ◌+◌, ◌/◌, Bool, false, ◌&&◌, List, [], ◌∷◌, ◌++◌, map, count_by, nat_le}
+use Rattle.std.specs.Prelude.{if◌then◌else◌}
 use Rattle.std.specs.Option.{option_map_or}
 use Rattle.std.specs.List.{filter, list_any}
 use Rattle.lt_terms.specs.Bytes.{Image, same_bytes}
@@ -32,27 +33,31 @@ met g image trie key = up_to_first (λ (s : Stop). holds_key key (items_at g ima
 abbrev pub is_covered : Geometry → Image → List ℕ → Stop → Bool
 is_covered g image key s = covers (extent_in g image s.extent 64) (home_column key) key
 
--- its home bucket sends items of the key's suffix
+-- the table's home bucket sends items of the key's suffix
 abbrev pub is_sent : Geometry → Image → List ℕ → Stop → Bool
-is_sent g image key s = option_map_or (λ (t : Sends). nat_le t.mark (key_suffix key)) (sends_on (extent_in g image s.extent (home_column key))) false
+is_sent g image key s =
+    option_map_or (λ (t : Sends). nat_le t.mark (key_suffix key))
+    (sends_on (extent_in g image s.extent (home_column key))) false
 
--- how many different numbers these are
+-- how many different numbers are in the list
 abbrev pub distinct_count : List ℕ → ℕ
 distinct_count [] = 0
 distinct_count (x ∷ xs) = if is_in x xs then distinct_count xs else suc (distinct_count xs)
 
--- the groups of the last-level pile that these tables belong to, 64 tables to a group
+-- how many groups of the last-level pile the tables belong to, 64 tables to a group
 abbrev pub groups_met : ℕ → List Stop → ℕ
-groups_met levels ss = distinct_count (map (λ (s : Stop). s.index / 64) (filter (λ (s : Stop). is_last_level levels s.node) ss))
+groups_met levels ss =
+    distinct_count (map (λ (s : Stop). s.index / 64) (filter (λ (s : Stop). is_last_level levels s.node) ss))
 
--- a bucket of each table that covers the key, a second one where its home bucket sends the key's suffix, and a block of each group
+-- what a get reads of the tables that it meets: a bucket of each that covers the key, a second one of those whose home
+-- bucket sends the key's suffix, and a block of each group
 unfoldable pub reads_of : Geometry → Image → List ℕ → List Stop → ℕ
 reads_of g image key ss =
     count_by (is_covered g image key) ss
     + count_by (λ s. is_covered g image key s && is_sent g image key s) ss
     + groups_met g.levels ss
 
--- the bound, for an image and the pending items
+-- how many blocks a get of the key may read, on an image and with pending items
 unfoldable pub read_bound : Opened → Image → List Item → List ℕ → ℕ
 read_bound o image pending key =
     if holds_key key (log_items o ++ pending) then 0

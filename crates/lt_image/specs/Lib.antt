@@ -5,6 +5,8 @@ pub mod Standing
 pub mod OnPath
 pub mod Shares
 pub mod Needs
+pub mod Work
 pub mod Bound
+pub mod Examples
 pub mod After
 pub mod Pressure

@@ -18,11 +18,13 @@ pub record Stop : Type 0 where
 
 -- the tables of a pile, the newest first
 abbrev pub stops_of : NodeId → Node → List Stop
-stops_of id n = reverse (map (λ (p : ℕ × ℕ). record { node = id; index = p.0; extent = p.1 }) (enumerate_from 0 n.tables))
+stops_of id n =
+    reverse (map (λ (p : ℕ × ℕ). record { node = id; index = p.0; extent = p.1 }) (enumerate_from 0 n.tables))
 
 -- the tables on a key's path, from the root down
 abbrev pub stops : ℕ → Trie → List ℕ → List Stop
-stops levels trie key = flat_map (λ level. stops_of (path key level) (node_at trie (path key level))) (range_with_len 0 levels)
+stops levels trie key =
+    flat_map (λ level. stops_of (path key level) (node_at trie (path key level))) (range_with_len 0 levels)
 
 -- the trie has no node but the root
 abbrev pub has_only_root : Trie → Bool
@@ -39,4 +41,6 @@ at_stops held levels trie key = first_some (λ (s : Stop). newest_of key (held s
 
 -- the newest version of a key on an image: the log's, and else that of the first table on its path that holds it
 abbrev pub found : Opened → Image → List ℕ → Option Item
-found o image key = option_or (newest_of key (log_items o)) (at_stops (items_at o.named.geometry image) o.named.geometry.levels o.named.manifest.trie key)
+found o image key =
+    option_or (newest_of key (log_items o))
+    (at_stops (items_at o.named.geometry image) o.named.geometry.levels o.named.manifest.trie key)

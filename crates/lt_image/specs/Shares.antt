@@ -15,7 +15,9 @@ pub record Share : Type 0 where
 
 -- the child for a digit gets the tables of its digit's items, behind its pile
 abbrev pub child_share : Trie → NodeId → List Item → ℕ → Share
-child_share trie id items d = record { node = child id d; behind = (node_at trie (child id d)).tables; parts = cut (with_digit id.level d items) }
+child_share trie id items d =
+    let pile = (node_at trie (child id d)).tables in
+    record { node = child id d; behind = pile; parts = cut (with_digit id.level d items) }
 
 -- the share has a table
 abbrev pub has_tables : Share → Bool
@@ -31,15 +33,17 @@ rewrite_share id items = record { node = id; behind = []; parts = cut (without_d
 
 -- an inner node is dealt, a last-level node is rewritten
 abbrev pub shares_of : ℕ → Trie → NodeId → List Item → List Share
-shares_of levels trie id items = if is_last_level levels id then rewrite_share id items ∷ [] else deal_shares trie id items
+shares_of levels trie id items =
+    if is_last_level levels id then rewrite_share id items ∷ [] else deal_shares trie id items
 
--- how many groups of the node stay: the full ones
+-- how many groups of the node of a share stay: the full ones
 abbrev pub kept_groups : ℕ → Share → ℕ
 kept_groups levels s = if is_last_level levels s.node then length s.behind / 64 else 0
 
--- how many groups follow them
+-- how many groups of the node of a share are new: those behind its full groups
 abbrev pub new_groups : ℕ → Share → ℕ
-new_groups levels s = if is_last_level levels s.node then groups_for (length s.behind + length s.parts) - length s.behind / 64 else 0
+new_groups levels s =
+    if is_last_level levels s.node then groups_for (length s.behind + length s.parts) - length s.behind / 64 else 0
 
 -- the extents of a share: its tables and its new groups
 abbrev pub share_extents : ℕ → Share → ℕ

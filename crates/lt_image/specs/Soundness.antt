@@ -1,5 +1,7 @@
--- When an image is sound. The blocks that show that it is not are listed in order, and only the first counts: those after it may rest on what it spoiled.
-use Rattle.std.specs.Prelude.{ℕ, ◌+◌, ◌*◌, Bool, true, false, not, ◌&&◌, ◌||◌, List, [], ◌∷◌, ◌++◌, map, length, Option, Some, None, is_none, nat_lt, ◌==◌, if◌then◌else◌, slice_range}
+-- When an image is sound. The blocks that show that it is not are listed in order, and only the first counts: those
+-- after it may rest on what it spoiled.
+use Rattle.std.specs.Prelude.{ℕ, ◌+◌, ◌*◌, Bool, true, false, not, ◌&&◌, ◌||◌, List, [], ◌∷◌, ◌++◌, map, length}
+use Rattle.std.specs.Prelude.{Option, Some, None, is_none, nat_lt, ◌==◌, if◌then◌else◌, slice_range}
 use Rattle.std.specs.List.{filter, flat_map, list_any, enumerate_from}
 use Rattle.std.specs.Option.{option_map_or}
 use lib.Pointwise.{pointwise}
@@ -51,14 +53,16 @@ abbrev pub stray_columns : NodeId → List (List ℕ) → List (ℕ × Item) →
 stray_columns id keys [] = []
 stray_columns id keys (found ∷ items) =
     let key = found.1.key in
-    block_if (not (same_node (path key id.level) id) || list_any (same_bytes key) keys) found.0 ++ stray_columns id (key ∷ keys) items
+    block_if (not (same_node (path key id.level) id) || list_any (same_bytes key) keys) found.0
+    ++ stray_columns id (key ∷ keys) items
 
 -- the columns whose page does not spell the placement's bucket; the first column where there is no placement
 abbrev pub misplaced_columns : (ℕ → List ℕ) → List Item → Option (List ColumnPlan) → List ℕ
 misplaced_columns block items None = 0 ∷ []
 misplaced_columns block items (Some plans) = filter (λ c. not (spells (block c) (bucket_in plans items c))) columns
 
--- the blocks of a table that show that it is not sound, by their number in the extent; the items are those of the table in rank order
+-- the blocks of a table that show that it is not sound, by their number in the extent; the items are those of the
+-- table in rank order
 unfoldable pub bad_in_table : NodeId → (ℕ → List ℕ) → List Item → List ℕ
 bad_in_table id block items =
     filter (λ c. is_none (bucket_of (block c))) columns
@@ -67,9 +71,10 @@ bad_in_table id block items =
     ++ misplaced_columns block items (placement_of items)
     ++ block_if (not (same_bytes (block 64) (filter_block items))) 64
 
--- those of the table in an extent
+-- the blocks of an image that show that the table in an extent is not sound
 abbrev pub bad_table_blocks : Geometry → Image → NodeId → ℕ → List ℕ
-bad_table_blocks g image id x = map (λ c. extent_block g x + c) (bad_in_table id (extent_in g image x) (newest (items_at g image x)))
+bad_table_blocks g image id x =
+    map (λ c. extent_block g x + c) (bad_in_table id (extent_in g image x) (newest (items_at g image x)))
 
 -- the filter blocks of tables
 abbrev pub filter_blocks : Geometry → Image → List ℕ → List (List ℕ)
@@ -79,13 +84,17 @@ filter_blocks g image tables = map (λ x. extent_in g image x 64) tables
 abbrev pub bad_group_blocks : Geometry → Image → List ℕ → ℕ × ℕ → List ℕ
 bad_group_blocks g image tables (j, x) =
     let filters = filter_blocks g image (slice_range tables (64 * j) (64 * j + 64)) in
-    map (λ c. extent_block g x + c) (filter (λ c. not (same_bytes (extent_in g image x c) (group_block filters c))) columns)
+    map (λ c. extent_block g x + c) (filter
+    (λ c. not (same_bytes (extent_in g image x c) (group_block filters c))) columns)
 
--- of a node: its tables, and then its groups
+-- the blocks that show that a node is not sound: those of its tables, and then those of its groups
 abbrev pub bad_node_blocks : Geometry → Image → NodeId × Node → List ℕ
-bad_node_blocks g image (id, n) = flat_map (bad_table_blocks g image id) n.tables ++ flat_map (bad_group_blocks g image n.tables) (enumerate_from 0 n.groups)
+bad_node_blocks g image (id, n) =
+    flat_map (bad_table_blocks g image id) n.tables
+    ++ flat_map (bad_group_blocks g image n.tables) (enumerate_from 0 n.groups)
 
--- of an image on which opening found no damage; the manifest's first block where the tables hold more items than there were writes
+-- the blocks that show that an image on which opening found no damage is not sound; the manifest's first block where
+-- the tables hold more items than there were writes
 unfoldable pub bad_blocks : Opened → Image → List ℕ
 bad_blocks o image =
     flat_map (bad_node_blocks o.named.geometry image) o.named.manifest.trie

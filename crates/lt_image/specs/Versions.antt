@@ -20,7 +20,7 @@ extent_in g image x = blocks_from image (extent_block g x)
 abbrev pub items_at : Geometry → Image → ℕ → List Item
 items_at g image x = table_items (extent_in g image x)
 
--- those of a pile, the oldest table first
+-- the items of a pile, the oldest table first
 abbrev pub pile_items : Geometry → Image → List ℕ → List Item
 pile_items g image tables = flat_map (items_at g image) tables
 
@@ -30,7 +30,8 @@ level_nodes trie level = filter (λ (e : NodeId × Node). e.0.level == level) tr
 
 -- the items of the tables of a level
 abbrev pub level_items : Geometry → Image → Trie → ℕ → List Item
-level_items g image trie level = flat_map (λ (e : NodeId × Node). pile_items g image e.1.tables) (level_nodes trie level)
+level_items g image trie level =
+    flat_map (λ (e : NodeId × Node). pile_items g image e.1.tables) (level_nodes trie level)
 
 -- the items of so many levels from the root down, the deepest of them first
 unfoldable pub items_above : Geometry → Image → Trie → ℕ → List Item

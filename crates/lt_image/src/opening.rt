@@ -11,10 +11,17 @@ ghost use Rattle.lt_image.specs.Opening.{Opened, open_image, log_items};
 /// An image opens exactly as its manifest and the log that this names. The log's items are valid, and
 /// so are the newest of them, and the log has room for them.
 pub fn images_open()
-    ensures opens { (image : Image) (o : Opened) → manifest_of image ≡ Ok o.named → log_groups o.named.geometry image o.named.manifest.header.log_area o.named.manifest.header.writes ≡ Ok o.groups → open_image image ≡ Ok o }
+    ensures opens { (image : Image) (o : Opened) → manifest_of image ≡ Ok o.named
+        → log_groups o.named.geometry image o.named.manifest.header.log_area o.named.manifest.header.writes
+        ≡ Ok o.groups
+        → open_image image ≡ Ok o }
     ensures named { (image : Image) (o : Opened) → open_image image ≡ Ok o → manifest_of image ≡ Ok o.named }
-    ensures log { (image : Image) (o : Opened) → open_image image ≡ Ok o → log_groups o.named.geometry image o.named.manifest.header.log_area o.named.manifest.header.writes ≡ Ok o.groups }
-    ensures valid { (image : Image) (o : Opened) → open_image image ≡ Ok o → All (λ item. IsTrue (is_valid item)) (log_items o) }
-    ensures newest { (image : Image) (o : Opened) → open_image image ≡ Ok o → All (λ item. IsTrue (is_valid item)) (newest (log_items o)) }
+    ensures log { (image : Image) (o : Opened) → open_image image ≡ Ok o
+        → log_groups o.named.geometry image o.named.manifest.header.log_area o.named.manifest.header.writes
+        ≡ Ok o.groups }
+    ensures valid { (image : Image) (o : Opened) → open_image image ≡ Ok o
+        → All (λ item. IsTrue (is_valid item)) (log_items o) }
+    ensures newest { (image : Image) (o : Opened) → open_image image ≡ Ok o
+        → All (λ item. IsTrue (is_valid item)) (newest (log_items o)) }
     ensures room { (image : Image) (o : Opened) → open_image image ≡ Ok o → total_cost (log_items o) ≤ log_room }
 {}

@@ -15,9 +15,13 @@ pub fn images_stand_for_one()
 /// state before has none of them. An image that has first writes of some has them of a longer list,
 /// and of one that begins earlier.
 pub fn prefixes_grow()
-    ensures whole { (image : Image) (s : State) (writes : List Item) → Stands image (after_writes s writes) → IsPrefix image s writes (length writes) }
+    ensures whole { (image : Image) (s : State) (writes : List Item) → Stands image (after_writes s writes)
+        → IsPrefix image s writes (length writes) }
     ensures none { (image : Image) (s : State) (writes : List Item) → Stands image s → IsPrefix image s writes 0 }
-    ensures fewer { (image : Image) (s : State) (writes : List Item) (j k : ℕ) → j ≤ k → IsPrefix image s writes k → IsPrefix image s writes j }
-    ensures longer { (image : Image) (s : State) (writes more : List Item) (k : ℕ) → IsPrefix image s writes k → IsPrefix image s (writes ++ more) k }
-    ensures earlier { (image : Image) (s : State) (first rest : List Item) (k : ℕ) → IsPrefix image (after_writes s first) rest k → IsPrefix image s (first ++ rest) (length first + k) }
+    ensures fewer { (image : Image) (s : State) (writes : List Item) (j k : ℕ) → j ≤ k → IsPrefix image s writes k
+        → IsPrefix image s writes j }
+    ensures longer { (image : Image) (s : State) (writes more : List Item) (k : ℕ) → IsPrefix image s writes k
+        → IsPrefix image s (writes ++ more) k }
+    ensures earlier { (image : Image) (s : State) (first rest : List Item) (k : ℕ)
+        → IsPrefix image (after_writes s first) rest k → IsPrefix image s (first ++ rest) (length first + k) }
 {}

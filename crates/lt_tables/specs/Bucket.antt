@@ -1,5 +1,6 @@
 -- Buckets and the page that spells one, and what a look-up of a key answers.
-use Rattle.std.specs.Prelude.{ℕ, ◌+◌, Bool, true, ◌&&◌, List, [], ◌∷◌, ◌++◌, length, drop, Option, Some, None, nat_lt, nat_le, ◌==◌, if◌then◌else◌, slice_index, slice_range}
+use Rattle.std.specs.Prelude.{ℕ, ◌+◌, Bool, true, ◌&&◌, List, [], ◌∷◌, ◌++◌, length, drop, Option, Some, None}
+use Rattle.std.specs.Prelude.{nat_lt, nat_le, ◌==◌, if◌then◌else◌, slice_index, slice_range}
 use Rattle.std.specs.Option.{option_and_then, option_map, option_map_or}
 use Rattle.std.specs.List.{find, list_all}
 use Rattle.lt_terms.specs.Bytes.{u16, u32, u16_at, u32_at, zeros, block_of, all_zero, same_bytes}
@@ -18,7 +19,9 @@ capacity = 4080
 
 -- a bucket of valid items that fit, whose target is a column
 abbrev pub fits_bucket : Bucket → Bool
-fits_bucket b = list_all is_valid b.items && nat_le (total_cost b.items) capacity && option_map_or (λ (s : Sends). nat_lt s.target 64 && nat_lt s.mark 4294967296) b.sends true
+fits_bucket b =
+    list_all is_valid b.items && nat_le (total_cost b.items) capacity
+    && option_map_or (λ (s : Sends). nat_lt s.target 64 && nat_lt s.mark 4294967296) b.sends true
 
 -- bytes 4 to 9: whether it sends, the target and the mark
 abbrev pub sends_bytes : Option Sends → List ℕ
@@ -27,7 +30,9 @@ sends_bytes (Some s) = (1 ∷ s.target ∷ []) ++ u32 s.mark
 
 -- the page that spells a bucket in format 1
 abbrev pub bucket_page_1 : Bucket → List ℕ
-bucket_page_1 b = block_of (u16 (length b.items) ++ u16 (total_cost b.items) ++ sends_bytes b.sends ++ (1 ∷ zeros 5) ++ spellings b.items)
+bucket_page_1 b =
+    block_of (u16 (length b.items) ++ u16 (total_cost b.items) ++ sends_bytes b.sends ++ (1 ∷ zeros 5)
+    ++ spellings b.items)
 
 -- where the bytes 4 to 9 of a page send; nothing where they are not so spelled
 abbrev pub sends_of : ℕ → ℕ → ℕ → Option (Option Sends)
@@ -40,8 +45,11 @@ sends_of flag target mark =
 unfoldable pub bucket_of_page_1 : List ℕ → Option Bucket
 bucket_of_page_1 page =
     let used = u16_at page 2 in
-    if nat_le used capacity && slice_index page 10 == 1 && all_zero (slice_range page 11 16) && all_zero (drop (16 + used) page)
-    then option_and_then (λ sends. option_map (λ items. record { sends = sends; items = items }) (items_of (u16_at page 0) (slice_range page 16 (16 + used)))) (sends_of (slice_index page 4) (slice_index page 5) (u32_at page 6))
+    if nat_le used capacity && slice_index page 10 == 1 && all_zero (slice_range page 11 16)
+    && all_zero (drop (16 + used) page)
+    then option_and_then (λ sends. option_map (λ items. record { sends = sends; items = items })
+    (items_of (u16_at page 0) (slice_range page 16 (16 + used))))
+    (sends_of (slice_index page 4) (slice_index page 5) (u32_at page 6))
     else None
 
 -- what a look-up of a key in a bucket answers: the item, the column where it may be, or neither
@@ -64,7 +72,8 @@ look_of None other = other
 abbrev pub look_in_1 : List ℕ → Bucket → Look
 look_in_1 key b = look_of (find (λ item. same_bytes item.key key) b.items) (sent_to b.sends (key_suffix key))
 
--- Below is what the layers above ask of a page. A second format joins here, beside the first: it changes these four lines, and nothing above them.
+-- Below is what the layers above ask of a page. A second format joins here, beside the first: it changes these four
+-- lines, and nothing above them.
 
 -- the bucket that a page spells
 abbrev pub bucket_of : List ℕ → Option Bucket

@@ -1,4 +1,5 @@
--- The 65 blocks of a table: 64 buckets and the filter block. The blocks of an extent are a function of their number in it.
+-- The 65 blocks of a table: 64 buckets and the filter block. The blocks of an extent are a function of their number
+-- in it.
 use Rattle.std.specs.Prelude.{◌≡◌, ℕ, ◌+◌, ◌<◌, ◌&&◌, List, Option, Some, None, nat_le, ◌==◌, if◌then◌else◌}
 use Rattle.std.specs.List.{filter, flat_map}
 use Rattle.lt_terms.specs.Bytes.{Image, block_at}
@@ -27,7 +28,8 @@ sends_in plan = if plan.sends then Some (record { target = plan.target; mark = p
 
 -- bucket c of a table with these items, which have distinct keys: in rank order those that lie there
 abbrev pub bucket_in : List ColumnPlan → List Item → ℕ → Bucket
-bucket_in plans items c = record { sends = sends_in (plan_at plans c); items = filter (λ item. place_of plans item == c) (newest items) }
+bucket_in plans items c =
+    record { sends = sends_in (plan_at plans c); items = filter (λ item. place_of plans item == c) (newest items) }
 
 -- the blocks are those of the table of these items
 pub record IsPlaced (items : List Item) (block : ℕ → List ℕ) : Type 0 where

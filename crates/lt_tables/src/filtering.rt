@@ -14,7 +14,9 @@ pub fn filters_at_first()
 
 /// With the positions of an item added in its home column, a page has the filters of one item more.
 pub fn filters_grow()
-    ensures { (items : List Item) (item : Item) (old new : List ℕ) → HasFilters items old → AddsPositions old new (home_column item.key) (key_positions item.key) → HasFilters (items ++ item ∷ []) new }
+    ensures { (items : List Item) (item : Item) (old new : List ℕ) → HasFilters items old
+        → AddsPositions old new (home_column item.key) (key_positions item.key)
+        → HasFilters (items ++ item ∷ []) new }
 {}
 
 /// One page alone has the filters of a table's items: its filter block.
@@ -24,5 +26,7 @@ pub fn one_filter_block()
 
 /// The filter block of some items covers each of their keys, in the key's home column.
 pub fn filters_cover()
-    ensures { (items : List Item) (key : List ℕ) → IsTrue (list_any (λ (item : Item). same_bytes item.key key) items) → IsTrue (covers (filter_block items) (home_column key) key) }
+    ensures { (items : List Item) (key : List ℕ)
+        → IsTrue (list_any (λ (item : Item). same_bytes item.key key) items)
+        → IsTrue (covers (filter_block items) (home_column key) key) }
 {}

@@ -34,5 +34,6 @@ pub fn tables_are_placed()
 pub fn cuts_keep_ranks()
     ensures newest { (versions : List Item) → newest (newest versions) ≡ newest versions }
     ensures ranked { (items : List Item) → newest items ≡ items → All (λ table. newest table ≡ table) (cut items) }
-    ensures valid { (items : List Item) → All (λ item. IsTrue (is_valid item)) items → All (λ table. All (λ item. IsTrue (is_valid item)) table) (cut items) }
+    ensures valid { (items : List Item) → All (λ item. IsTrue (is_valid item)) items
+        → All (λ table. All (λ item. IsTrue (is_valid item)) table) (cut items) }
 {}

@@ -14,6 +14,7 @@ pub fn read_items_are_valid()
 /// In the map that versions make, a key has the value of its newest version, and none where that is
 /// a delete or there is none. The newest versions alone have the same newest version of each key.
 pub fn newest_counts()
-    ensures value { (versions : List Item) (key : List ℕ) → value_at (after_items empty_map versions) key ≡ value_of (newest_of key versions) }
+    ensures value { (versions : List Item) (key : List ℕ)
+        → value_at (after_items empty_map versions) key ≡ value_of (newest_of key versions) }
     ensures kept { (versions : List Item) (key : List ℕ) → newest_of key (newest versions) ≡ newest_of key versions }
 {}
