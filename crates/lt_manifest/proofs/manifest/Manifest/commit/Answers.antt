@@ -1,4 +1,4 @@
-use Rattle.std.proofs.Common.{◌≡◌, ℕ, List, ◌+◌, ◌-◌, ◌≤◌, vec_capacity, ◌∙◌, ap, sym, subst, length, IsTrue, arith}
+use Rattle.std.proofs.Common.{◌≡◌, ℕ, List, ◌+◌, ◌-◌, ◌≤◌, vec_capacity, ◌∙◌, ap, sym, subst, length, arith}
 use Rattle.lt_device.specs.Moments.{Leaves, ConfinedTo, ShowsSameOutside}
 use Rattle.lt_device.proofs.Runs.{confined_widens}
 use Rattle.lt_format.specs.declared.header.Header.{Header}
