@@ -90,8 +90,13 @@ node_read bytes limit levels extents last_id before at = do
       (if level.0 + 1 == levels then groups_for tables_len.0 else 0)) tables_len.1
   tables ← extents_at bytes limit extents tables_len.0 before groups_len.1
   groups ← extents_at bytes limit extents groups_len.0 (tables.0 ++ before) tables.1
-  let node : Node = record { base = base.0; tables = tables.0; groups = groups.0 } in
-      Ok ((record { level = level.0; number = number.0 }, node), groups.1)
+  Ok (
+    (
+      record { level = level.0; number = number.0 },
+      record { base = base.0; tables = tables.0; groups = groups.0 },
+    ),
+    groups.1,
+  )
 
 -- the name of a node
 abbrev pub id_of : NodeId × Node → NodeId
@@ -139,8 +144,11 @@ front_read g blocks bytes = do
   total ← field bytes 40 w32 (λ n. nat_le 40 n && nat_le n (40 + 19 * extents.0)) 20
   gap_high ← field bytes 40 w64 is_zero 24
   gap_low ← field bytes 40 w64 is_zero 32
-  let header : Header = record { log_area = area.0; extents = extents.0; writes = writes.0 } in
-      Ok (record { header = header; nodes = nodes.0; total = total.0 })
+  Ok (record {
+    header = record { log_area = area.0; extents = extents.0; writes = writes.0 };
+    nodes = nodes.0;
+    total = total.0;
+  })
 
 -- the offset of the field that gives the length
 abbrev pub total_offset : ℕ

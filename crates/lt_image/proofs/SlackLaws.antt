@@ -15,7 +15,7 @@ use Rattle.lt_tables.specs.Alike.{SameNewest}
 use Rattle.lt_tables.specs.Cut.{cut}
 use Rattle.lt_tables.specs.Merge.{newest, newest_of, versions_of, is_put, has_two_versions, without_deletes}
 use Rattle.lt_tables.proofs.CutLaws.{cut-joined}
-use Rattle.lt_tables.proofs.ListLaws.{all_drop, all_filter, all_take}
+use Rattle.lt_tables.proofs.ListLaws.{all_drop, all_filter, all_join, all_take}
 use Rattle.lt_tables.proofs.NewestLaws.{newest-alike}
 use Rattle.lt_tables.proofs.PartLaws.{HasOnce-newest, filter_again, ranked-filter}
 use Rattle.lt_tables.proofs.PlanLaws.{placement-within}
@@ -81,13 +81,9 @@ none_twice (v ∷ vs) h = both (list_any (λ (w : Item). same_bytes w.key v.key)
 abbrev Puts : List Item → Type 0
 Puts items = AllByRecursion (λ (v : Item). is_put v ≡ true) items
 
-puts_join : (xs ys : List Item) → Puts xs → Puts ys → Puts (xs ++ ys)
-puts_join [] ys a b = b
-puts_join (x ∷ xs) ys a b = (a.0, puts_join xs ys a.1 b)
-
 puts_spread : (place : Item → ℕ) (xs : List Item) (cs : List ℕ) → Puts xs → Puts (flat_map (λ c. filter (λ v. place v == c) xs) cs)
 puts_spread place xs [] p = tt
-puts_spread place xs (c ∷ cs) p = puts_join (filter (λ v. place v == c) xs) (flat_map (λ c. filter (λ v. place v == c) xs) cs) (all_filter (λ (v : Item). is_put v ≡ true) (λ v. place v == c) xs p) (puts_spread place xs cs p)
+puts_spread place xs (c ∷ cs) p = all_join (λ (v : Item). is_put v ≡ true) (filter (λ v. place v == c) xs) (flat_map (λ c. filter (λ v. place v == c) xs) cs) (all_filter (λ (v : Item). is_put v ≡ true) (λ v. place v == c) xs p) (puts_spread place xs cs p)
 
 placed_puts : (items : List Item) (block : ℕ → List ℕ) → IsPlaced items block → Puts items → Puts (table_items block)
 placed_puts items block p puts = subst Puts (sym (table_items-placed p.plans items block p.buckets)) (puts_spread (place_of p.plans) (newest items) columns (each_newest (λ (v : Item). is_put v ≡ true) items puts))
@@ -95,7 +91,7 @@ placed_puts items block p puts = subst Puts (sym (table_items-placed p.plans ite
 piles_puts : (g : Geometry) (image : Image) (tables : List ℕ) (parts : List (List Item)) → AllByRecursion Puts parts → PlacedIn g image tables parts → Puts (pile_items g image tables)
 piles_puts g image [] parts puts zip = tt
 piles_puts g image (x ∷ tables) [] puts zip = absurd zip
-piles_puts g image (x ∷ tables) (p ∷ parts) puts zip = puts_join (items_at g image x) (pile_items g image tables) (placed_puts p (extent_in g image x) zip.0 puts.0) (piles_puts g image tables parts puts.1 zip.1)
+piles_puts g image (x ∷ tables) (p ∷ parts) puts zip = all_join (λ (v : Item). is_put v ≡ true) (items_at g image x) (pile_items g image tables) (placed_puts p (extent_in g image x) zip.0 puts.0) (piles_puts g image tables parts puts.1 zip.1)
 
 only_puts : (items : List Item) → Puts (without_deletes items)
 only_puts [] = tt

@@ -16,8 +16,11 @@ pub record Share : Type 0 where
 -- the child for a digit gets the tables of its digit's items, behind its pile
 abbrev pub child_share : Trie → NodeId → List Item → ℕ → Share
 child_share trie id items d =
-    let pile = (node_at trie (child id d)).tables in
-    record { node = child id d; behind = pile; parts = cut (with_digit id.level d items) }
+    record {
+      node = child id d;
+      behind = (node_at trie (child id d)).tables;
+      parts = cut (with_digit id.level d items);
+    }
 
 -- the share has a table
 abbrev pub has_tables : Share → Bool
