@@ -1,11 +1,10 @@
 //! The superblock: `LSMTRIE1`, the levels in one byte, the slots in two, and zeros.
 
 ghost use Rattle.std.specs.Prelude.{◌≡◌};
-ghost use Rattle.lt_terms.specs.Bytes.{all_zero};
 ghost use Rattle.lt_format.specs.Layout.{is_geometry, superblock, geometry_of};
 
 use lt_format::Geometry;
-use lt_page::Page;
+use lt_page::{Page, all_zero};
 
 const MAGIC: [u8; 8] = *b"LSMTRIE1";
 
@@ -40,10 +39,4 @@ fn is_valid(geometry: &Geometry) -> bool
     ensures { result ≡ is_geometry geometry.now }
 {
     2 <= geometry.levels && geometry.levels <= 5 && 1 <= geometry.slots && geometry.slots <= 512
-}
-
-fn all_zero(bytes: &[u8]) -> bool
-    ensures { result ≡ all_zero bytes.now }
-{
-    bytes.iter().all(|byte| *byte == 0)
 }

@@ -3,7 +3,6 @@
 ghost use Rattle.std.specs.Prelude.{◌≡◌, ℕ, ◌+◌, ◌<◌, ◌≤◌, ◌∷◌, ◌++◌, [], length, List, IfSome, IsTrue};
 ghost use Rattle.std.specs.List.{list_all};
 ghost use Rattle.std.specs.Option.{option_map};
-ghost use Rattle.lt_terms.specs.Bytes.{all_zero};
 ghost use Rattle.lt_terms.specs.Items.{Item, is_valid, item_cost, total_cost};
 ghost use Rattle.lt_item.specs.Views.{item_of};
 ghost use Rattle.lt_format.specs.Log.{group_room, group_page, group_on};
@@ -11,7 +10,7 @@ ghost use Rattle.lt_redo.specs.Group.{IsGathered};
 
 use lt_bucket::{Items, put_item};
 use lt_item::ItemView;
-use lt_page::Page;
+use lt_page::{Page, all_zero};
 
 /// What the items of a group cost at most.
 pub const GROUP_ROOM: u16 = 4092;
@@ -56,10 +55,4 @@ pub fn group_on(page: &Page) -> Option<(Items<'_>, u16)>
         return None;
     }
     Some((Items::of(count, &spelled[4..])?, used))
-}
-
-fn all_zero(bytes: &[u8]) -> bool
-    ensures { result ≡ all_zero bytes.now }
-{
-    bytes.iter().all(|byte| *byte == 0)
 }
