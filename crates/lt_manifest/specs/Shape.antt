@@ -4,7 +4,7 @@ use Rattle.std.specs.Int.{w8, w16, w32}
 use Rattle.lt_format.specs.declared.node_id.NodeId.{NodeId}
 use Rattle.lt_format.specs.Trie.{Node, groups_for}
 use Rattle.lt_format.specs.Snapshot.{field, follows, ◌>>=◌}
-use Rattle.lt_manifest.specs.declared.nodes.NodeRead.{NodeRead}
+use Rattle.lt_manifest.specs.declared.snapshot.node.NodeRead.{NodeRead}
 
 -- the node's name and base, and how many tables and groups it has
 pub record Shape : Type 0 where

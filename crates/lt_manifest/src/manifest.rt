@@ -3,9 +3,8 @@
 ghost use Rattle.std.specs.Prelude.{◌≡◌, ℕ, ◌-◌, ◌^◌, ◌<◌, ◌≤◌, Some, Ok, Err, IfOk, IsErrOf, OnOk, IsTrue};
 ghost use Rattle.std.specs.Option.{ForSome};
 ghost use Rattle.lt_terms.specs.Bytes.{Image};
-ghost use Rattle.lt_terms.specs.Causes.{Rose};
+ghost use Rattle.lt_device.specs.Calls.{OnlyReads, OnlyWrites};
 ghost use Rattle.lt_device.specs.Moments.{MayLeave, Leaves, ConfinedTo, UnsyncedIn, ShowsSameOutside};
-ghost use Rattle.lt_device.specs.Reads.{CountsAtMost};
 ghost use Rattle.lt_format.specs.Layout.{is_geometry, blocks_needed};
 ghost use Rattle.lt_format.specs.Snapshot.{extents_stand, snapshot_bytes};
 ghost use Rattle.lt_format.specs.Naming.{InManifest, manifest_in, may_commit, after_commit};
@@ -14,10 +13,9 @@ ghost use Rattle.lt_manifest.specs.Moments.{Names, HasNew, HasOldOrNew, EditsClo
 ghost use Rattle.lt_manifest.specs.Opened.{IsKept, IsOpened, InSnapshot, fresh};
 ghost use Rattle.lt_manifest.specs.Written.{HasSelected, InSelected};
 
-use crate::area::{fill_area, fill_selector};
-use crate::reading::read_snapshot;
-use crate::replacing::replace;
-use crate::spelling::{snapshot_room, spell};
+use crate::area::{fill_area, fill_selector, replace};
+use crate::snapshot::reading::read_snapshot;
+use crate::snapshot::spelling::{snapshot_room, spell};
 use lt_device::Device;
 use lt_format::{Geometry, Header};
 use lt_layout::{OpenFault, selected};
@@ -72,10 +70,8 @@ impl Manifest {
         ensures no_sync { (D.state device.new).past ≡ (D.state device.old).past }
 
         ensures no_memory { IsErrOf result CommitFault.NoMemory → device.new ≡ device.old }
-        ensures size { D.blocks device.new ≡ D.blocks device.old }
-        ensures count { D.reads device.new ≡ D.reads device.old }
-        ensures later { D.faults device.old ≤ D.faults device.new }
-        ensures cause { IsErrOf result CommitFault.Device → Rose (D.faults device.old) (D.faults device.new) }
+        ensures calls { OnlyWrites D.Device (IsErrOf result CommitFault.Device)
+            device.old device.new }
     {
         let header = Header {
             log_area: 0,
@@ -107,11 +103,8 @@ impl Manifest {
 
         ensures damaged { (b : ℕ) → IsErrOf result (OpenFault.Damaged b) → ForSome (D.state device.old).shown (λ image. manifest_in geometry.now image ≡ Err b) }
         ensures damaged_block { (b : ℕ) → IsErrOf result (OpenFault.Damaged b) → InSnapshot b }
-        ensures cause { IsErrOf result OpenFault.Device → Rose (D.faults device.old) (D.faults device.new) }
-        ensures later { D.faults device.old ≤ D.faults device.new }
-        ensures state { D.state device.new ≡ D.state device.old }
-        ensures size { D.blocks device.new ≡ D.blocks device.old }
-        ensures count { CountsAtMost 306 (D.reads device.old) (D.reads device.new) }
+        ensures calls { OnlyReads D.Device 306 (IsErrOf result OpenFault.Device)
+            device.old device.new }
     {
         let mut page = Page::new(alloc)?;
         device.read(1, &mut page)?;
@@ -181,10 +174,8 @@ impl Manifest {
 
         ensures no_memory { IsErrOf result CommitFault.NoMemory → device.new ≡ device.old }
         ensures unchanged { IsErrOf result CommitFault.NoMemory → self.new ≡ self.old }
-        ensures size { D.blocks device.new ≡ D.blocks device.old }
-        ensures count { D.reads device.new ≡ D.reads device.old }
-        ensures later { D.faults device.old ≤ D.faults device.new }
-        ensures cause { IsErrOf result CommitFault.Device → Rose (D.faults device.old) (D.faults device.new) }
+        ensures calls { OnlyWrites D.Device (IsErrOf result CommitFault.Device)
+            device.old device.new }
     {
         let mut page = Page::new(alloc)?;
         let mut bytes = snapshot_room(alloc)?;

@@ -1,5 +1,5 @@
 -- The changes as values of the program, and the nodes that they set.
-use Rattle.std.specs.Prelude.{Bool, ◌||◌, [], ◌∷◌, ◌++◌, length, map}
+use Rattle.std.specs.Prelude.{ℕ, Bool, ◌||◌, List, [], ◌∷◌, ◌++◌, length, map, drop}
 use Rattle.std.specs.List.{list_any}
 use Rattle.lt_format.specs.declared.node_id.NodeId.{NodeId}
 use Rattle.lt_format.specs.Trie.{Node, Trie, root, same_node, node_at, with_node}
@@ -25,6 +25,10 @@ with_entry trie e = with_node trie e.0 e.1
 -- a child with what a deal gives it
 abbrev pub dealt_entry : Trie → format.ChildChange → NodeId × Node
 dealt_entry trie c = (c.node, format.child_after (node_at trie c.node) c)
+
+-- the groups of a child that a deal does not keep
+abbrev pub freed_groups : Trie → format.ChildChange → List ℕ
+freed_groups trie c = drop c.kept_groups (node_at trie c.node).groups
 
 -- the nodes that a change sets, each as it is then
 abbrev pub changed : Trie → format.Change → Trie

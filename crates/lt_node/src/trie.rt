@@ -1,11 +1,12 @@
 //! The trie of piles.
 
 ghost use Rattle.std.specs.Prelude.{◌≡◌, ◌≤◌, ◌<◌, ◌^◌, [], ◌∷◌, ◌++◌, IfOk, OnOk, OnErr, IsTrue, map, take, drop, length};
+ghost use Rattle.std.specs.List.{flat_map};
 ghost use Rattle.lt_format.specs.Trie.{root, named, node_extents, table_total, node_at, with_node, is_node, is_shaped};
-ghost use Rattle.lt_format.specs.Changes.{are_new, fits, after_change, appended, without_oldest};
+ghost use Rattle.lt_format.specs.Changes.{are_new, fits, after_change, appended, freed, without_oldest};
 ghost use Rattle.lt_node.specs.View.{IsView};
 ghost use Rattle.lt_node.specs.Places.{IsFound};
-ghost use Rattle.lt_node.specs.Changing.{change_of, child_of, changed, dealt_entry};
+ghost use Rattle.lt_node.specs.Changing.{change_of, child_of, changed, dealt_entry, freed_groups};
 
 use crate::change::{Change, ChildChange};
 use crate::entry::NodeEntry;
@@ -145,6 +146,28 @@ impl Trie {
         Ok(())
     }
 
+    /// The extents that the trie no longer names once this change is made. Taken before a commit, so that
+    /// giving them back afterwards needs no memory.
+    pub fn freed(&self, alloc: Global, change: &Change) -> Result<Vec<u32>, NoMemory>
+        ensures { IfOk result (λ extents.
+            extents.items ≡ freed self.now.nodes (change_of change.now)) }
+    {
+        match change {
+            Change::Flush { .. } => Ok(Vec::new(alloc)),
+            Change::Deal {
+                node,
+                dropped,
+                children,
+            } => {
+                let dealt = front(self.pile(*node), *dropped as usize);
+                let mut extents = Vec::from_slice(alloc, dealt)?;
+                self.free_groups(&mut extents, children.list())?;
+                Ok(extents)
+            }
+            Change::Rewrite { node, .. } => joined(alloc, self.pile(*node), self.groups(*node)),
+        }
+    }
+
     /// The extents that the trie names: of each node the tables and then the groups.
     pub fn referenced(&self, alloc: Global) -> Result<Vec<u32>, NoMemory>
         ensures named { IfOk result (λ extents. extents.items ≡ named self.now.nodes) }
@@ -230,6 +253,18 @@ impl Trie {
             joined(alloc, self.pile(child.node), child.tables.list())?,
             joined(alloc, kept, child.groups.list())?,
         ))
+    }
+
+    /// Puts the groups that children do not keep behind the others.
+    fn free_groups(&self, extents: &mut Vec<u32>, children: &[ChildChange]) -> Result<(), NoMemory>
+        ensures { OnOk result (extents.new.items
+            ≡ extents.old.items ++ flat_map (freed_groups self.now.nodes) (map child_of children.now)) }
+    {
+        for child in children {
+            let groups = behind(self.groups(child.node), child.kept_groups as usize);
+            extents.extend_from_slice(groups)?;
+        }
+        Ok(())
     }
 
     /// A node without its oldest tables.

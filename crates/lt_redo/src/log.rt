@@ -4,11 +4,10 @@ ghost use Rattle.std.specs.Prelude.{◌≡◌, ℕ, ◌+◌, ◌*◌, ◌-◌, �
 ghost use Rattle.std.specs.List.{list_all};
 ghost use Rattle.std.specs.Option.{ForSome};
 ghost use Rattle.lt_terms.specs.Bytes.{Image};
-ghost use Rattle.lt_terms.specs.Causes.{HasCause, Rose};
 ghost use Rattle.lt_terms.specs.Items as terms;
 ghost use Rattle.lt_terms.specs.Items.{is_valid, item_cost, total_cost};
 ghost use Rattle.lt_item.specs.Views.{item_of};
-ghost use Rattle.lt_device.specs.Reads.{CountsAtMost};
+ghost use Rattle.lt_device.specs.Calls.{OnlyReads, OnlyWrites};
 ghost use Rattle.lt_device.specs.Moments.{MayLeave, Leaves, ConfinedTo, UnsyncedIn};
 ghost use Rattle.lt_format.specs.Layout.{is_geometry, extent_block};
 ghost use Rattle.lt_format.specs.Log.{group_room, group_page, log_fits, log_groups, items_in};
@@ -102,11 +101,8 @@ impl Log {
 
         ensures damaged { (b : ℕ) → IsErrOf result (OpenFault.Damaged b) → ForSome (D.state device.old).shown (λ image. log_groups geometry.now image area writes ≡ Err b) }
         ensures damaged_block { (b : ℕ) → IsErrOf result (OpenFault.Damaged b) → InLogArea geometry.now area b }
-        ensures cause { IsErrOf result OpenFault.Device → Rose (D.faults device.old) (D.faults device.new) }
-        ensures later { D.faults device.old ≤ D.faults device.new }
-        ensures state { D.state device.new ≡ D.state device.old }
-        ensures size { D.blocks device.new ≡ D.blocks device.old }
-        ensures count { CountsAtMost (2 * geometry.now.slots) (D.reads device.old) (D.reads device.new) }
+        ensures calls { OnlyReads D.Device (2 * geometry.now.slots) (IsErrOf result OpenFault.Device)
+            device.old device.new }
     {
         let mut page = Page::new(alloc)?;
         let (slots, read) = replay(alloc, device, geometry, area, writes, &mut page)?;
@@ -217,9 +213,7 @@ impl Log {
             → HoldsPages self.old.geometry self.old.area self.old.slots (group_page self.old.pending) left) }
         ensures confined { ConfinedTo (InSlot self.old.geometry self.old.area self.old.slots) (D.state device.old) (D.state device.new) }
         ensures sure { OnOk result (0 < length self.old.pending → UnsyncedIn (λ _. ⊥) (D.state device.new)) }
-        ensures size { D.blocks device.new ≡ D.blocks device.old }
-        ensures count { D.reads device.new ≡ D.reads device.old }
-        ensures cause { HasCause (D.faults device.old) (D.faults device.new) result }
+        ensures calls { OnlyWrites D.Device (IsErr result) device.old device.new }
     {
         if self.count == 0 {
             return Ok(());
@@ -255,9 +249,7 @@ impl Log {
             → ((left : Image) → MayLeave (D.state device.old) left → HasLog self.old.geometry self.old.area self.old.writes groups left)
             → Leaves (HasLog self.old.geometry self.old.area self.old.writes groups) (D.state device.old) (D.state device.new) }
         ensures sure { OnOk result (UnsyncedIn (λ _. ⊥) (D.state device.new)) }
-        ensures size { D.blocks device.new ≡ D.blocks device.old }
-        ensures count { D.reads device.new ≡ D.reads device.old }
-        ensures cause { HasCause (D.faults device.old) (D.faults device.new) result }
+        ensures calls { OnlyWrites D.Device (IsErr result) device.old device.new }
     {
         clear_area(device, &self.geometry, 1 - self.area, &self.closed)?;
         self.cleared = true;

@@ -1,8 +1,8 @@
 //! One slot of a log area: a gate, and the content behind it.
 
-ghost use Rattle.std.specs.Prelude.{◌≡◌, ℕ, ◌<◌, ◌∷◌, ◌++◌, [], List, true, length, OnOk};
+ghost use Rattle.std.specs.Prelude.{◌≡◌, ℕ, ◌<◌, ◌∷◌, ◌++◌, [], List, true, length, IsErr, OnOk};
 ghost use Rattle.lt_terms.specs.Bytes.{Image};
-ghost use Rattle.lt_terms.specs.Causes.{HasCause};
+ghost use Rattle.lt_device.specs.Calls.{OnlyWrites};
 ghost use Rattle.lt_terms.specs.Items.{Item};
 ghost use Rattle.lt_device.specs.Moments.{MayLeave, Leaves, ConfinedTo, UnsyncedIn};
 ghost use Rattle.lt_format.specs.Layout.{log_content, gate_page};
@@ -39,9 +39,7 @@ pub fn write_slot<D: Device>(
     ensures pages { OnOk result ((left : Image) → MayLeave (D.state device.new) left → HoldsPages geometry.now area slot content.now left) }
     ensures confined { ConfinedTo (InSlot geometry.now area slot) (D.state device.old) (D.state device.new) }
     ensures sure { OnOk result (UnsyncedIn (λ _. ⊥) (D.state device.new)) }
-    ensures size { D.blocks device.new ≡ D.blocks device.old }
-    ensures count { D.reads device.new ≡ D.reads device.old }
-    ensures cause { HasCause (D.faults device.old) (D.faults device.new) result }
+    ensures calls { OnlyWrites D.Device (IsErr result) device.old device.new }
 {
     let gate = geometry.log_gate(area, slot);
     device.write(gate + 1, content)?;
