@@ -6,7 +6,7 @@ ghost use Rattle.lt_terms.specs.Bytes.{Image, block_at, block_of};
 ghost use Rattle.lt_device.specs.Calls.{OnlyWrites};
 ghost use Rattle.lt_device.specs.Image.{SameOutside};
 ghost use Rattle.lt_device.specs.State.{IsFit};
-ghost use Rattle.lt_device.specs.Moments.{MayLeave, Leaves, ConfinedTo, UnsyncedIn, ShowsSameOutside};
+ghost use Rattle.lt_device.specs.Moments.{MayLeave, Leaves, ConfinedTo, UnsyncedIn, ShowsSameOutside, MayOnlyLeave};
 ghost use Rattle.lt_format.specs.Layout.{area_block, edit_gate, edit_slots, gate_page, is_geometry};
 ghost use Rattle.lt_format.specs.Snapshot.{Manifest};
 ghost use Rattle.lt_format.specs.Naming.{Named};
@@ -33,15 +33,23 @@ pub fn replace<D: Device>(
     requires area { area < 2 }
     requires within { 868 ≤ D.blocks device.old }
     requires room { length bytes.now ≤ 305 * 4096 }
-    ensures any_moment { (old : Named) (new : Manifest) (shown : Image) → IsNext geometry.now area (D.blocks device.old) bytes.now old new → (D.state device.old).shown ≡ Some shown
-        → ((left : Image) → MayLeave (D.state device.old) left → Names old left)
+    ensures any_moment { (old : Named) (new : Manifest) (shown : Image)
+        → IsNext geometry.now area (D.blocks device.old) bytes.now old new
+        → (D.state device.old).shown ≡ Some shown
+        → MayOnlyLeave (Names old) (D.state device.old)
         → Leaves (HasOldOrNew old new shown) (D.state device.old) (D.state device.new) }
-    ensures committed { OnOk result ((old : Named) (new : Manifest) (shown : Image) → IsNext geometry.now area (D.blocks device.old) bytes.now old new → (D.state device.old).shown ≡ Some shown
-        → ((left : Image) → MayLeave (D.state device.old) left → Names old left)
-        → (left : Image) → MayLeave (D.state device.new) left → HasNew (record { geometry = geometry.now; area = 1 - area; manifest = new }) shown left) }
-    ensures written { OnOk result ((left : Image) → MayLeave (D.state device.new) left → HasSelected (1 - area) bytes.now left) }
-    ensures confined { ConfinedTo (InSelected (1 - area)) (D.state device.old) (D.state device.new) }
-    ensures others { ShowsSameOutside (InSelected (1 - area)) (D.state device.old).shown (D.state device.new).shown }
+    ensures committed { OnOk result ((old : Named) (new : Manifest) (shown : Image)
+        → IsNext geometry.now area (D.blocks device.old) bytes.now old new
+        → (D.state device.old).shown ≡ Some shown
+        → MayOnlyLeave (Names old) (D.state device.old)
+        → (left : Image) → MayLeave (D.state device.new) left
+        → HasNew (record { geometry = geometry.now; area = 1 - area; manifest = new }) shown left) }
+    ensures written { OnOk result (MayOnlyLeave (HasSelected (1 - area) bytes.now)
+        (D.state device.new)) }
+    ensures confined { ConfinedTo (InSelected (1 - area)) (D.state device.old)
+        (D.state device.new) }
+    ensures others { ShowsSameOutside (InSelected (1 - area)) (D.state device.old).shown
+        (D.state device.new).shown }
     ensures sure { OnOk result (UnsyncedIn (λ _. ⊥) (D.state device.new)) }
     ensures calls { OnlyWrites D.Device (IsErr result) device.old device.new }
 {
@@ -54,9 +62,11 @@ pub fn replace<D: Device>(
 fn select_area<D: Device>(device: &mut D, area: u8, page: &mut Page) -> Result<(), Failed>
     requires area { area < 2 }
     requires within { 868 ≤ D.blocks device.old }
-    ensures written { OnOk result ((left : Image) → MayLeave (D.state device.new) left → block_at left 1 ≡ block_of (area ∷ [])) }
+    ensures written { OnOk result ((left : Image) → MayLeave (D.state device.new) left
+        → block_at left 1 ≡ block_of (area ∷ [])) }
     ensures confined { ConfinedTo (λ k. k ≡ 1) (D.state device.old) (D.state device.new) }
-    ensures others { ShowsSameOutside (λ k. k ≡ 1) (D.state device.old).shown (D.state device.new).shown }
+    ensures others { ShowsSameOutside
+        (λ k. k ≡ 1) (D.state device.old).shown (D.state device.new).shown }
     ensures sure { OnOk result (UnsyncedIn (λ _. ⊥) (D.state device.new)) }
     ensures calls { OnlyWrites D.Device (IsErr result) device.old device.new }
 {
@@ -77,13 +87,15 @@ pub fn write_area<D: Device>(
     requires area { area < 2 }
     requires within { 868 ≤ D.blocks device.old }
     requires room { length bytes.now ≤ 305 * 4096 }
-    ensures written { OnOk result ((left : Image) → MayLeave (D.state device.new) left → HasArea area bytes.now left) }
+    ensures written { OnOk result (MayOnlyLeave (HasArea area bytes.now) (D.state device.new)) }
 
     // All that was written before is sure.
-    ensures others_sure { OnOk result ((shown : Image) → (D.state device.old).shown ≡ Some shown → (left : Image) → MayLeave (D.state device.new) left → SameOutside (InArea area) shown left) }
+    ensures others_sure { OnOk result ((shown : Image) → (D.state device.old).shown ≡ Some shown
+        → MayOnlyLeave (SameOutside (InArea area) shown) (D.state device.new)) }
     ensures fit { OnOk result (IsFit (D.blocks device.new) (D.state device.new)) }
     ensures confined { ConfinedTo (InArea area) (D.state device.old) (D.state device.new) }
-    ensures others { ShowsSameOutside (InArea area) (D.state device.old).shown (D.state device.new).shown }
+    ensures others { ShowsSameOutside (InArea area) (D.state device.old).shown
+        (D.state device.new).shown }
     ensures calls { OnlyWrites D.Device (IsErr result) device.old device.new }
 {
     fill_area(device, geometry, area, bytes, page)?;
@@ -103,7 +115,8 @@ pub fn fill_area<D: Device>(
     requires room { length bytes.now ≤ 305 * 4096 }
     ensures written { OnOk result (ForSome (D.state device.new).shown (HasArea area bytes.now)) }
     ensures confined { ConfinedTo (InArea area) (D.state device.old) (D.state device.new) }
-    ensures others { ShowsSameOutside (InArea area) (D.state device.old).shown (D.state device.new).shown }
+    ensures others { ShowsSameOutside (InArea area) (D.state device.old).shown
+        (D.state device.new).shown }
     ensures no_sync { (D.state device.new).past ≡ (D.state device.old).past }
     ensures calls { OnlyWrites D.Device (IsErr result) device.old device.new }
 {
@@ -123,9 +136,12 @@ fn write_pages<D: Device>(
     requires area { area < 2 }
     requires within { 868 ≤ D.blocks device.old }
     requires room { length bytes.now ≤ 305 * 4096 }
-    ensures written { OnOk result (AreWritten (λ k. area_block area + k) (page_of bytes.now) (page_count bytes.now) (D.state device.new).shown) }
+    ensures written { OnOk result (AreWritten
+        (λ k. area_block area + k) (page_of bytes.now) (page_count bytes.now)
+        (D.state device.new).shown) }
     ensures confined { ConfinedTo (InArea area) (D.state device.old) (D.state device.new) }
-    ensures others { ShowsSameOutside (InArea area) (D.state device.old).shown (D.state device.new).shown }
+    ensures others { ShowsSameOutside (InArea area) (D.state device.old).shown
+        (D.state device.new).shown }
     ensures no_sync { (D.state device.new).past ≡ (D.state device.old).past }
     ensures calls { OnlyWrites D.Device (IsErr result) device.old device.new }
 {
@@ -158,9 +174,11 @@ fn close_edits<D: Device>(
 ) -> Result<(), Failed>
     requires area { area < 2 }
     requires within { 868 ≤ D.blocks device.old }
-    ensures written { OnOk result (AreWritten (edit_gate area) (λ k. gate_page false) edit_slots (D.state device.new).shown) }
+    ensures written { OnOk result (AreWritten (edit_gate area)
+        (λ k. gate_page false) edit_slots (D.state device.new).shown) }
     ensures confined { ConfinedTo (InEdits area) (D.state device.old) (D.state device.new) }
-    ensures others { ShowsSameOutside (InEdits area) (D.state device.old).shown (D.state device.new).shown }
+    ensures others { ShowsSameOutside (InEdits area) (D.state device.old).shown
+        (D.state device.new).shown }
     ensures kept { ComesFrom (InEdits area) (D.state device.old).shown (D.state device.new).shown }
     ensures no_sync { (D.state device.new).past ≡ (D.state device.old).past }
     ensures calls { OnlyWrites D.Device (IsErr result) device.old device.new }

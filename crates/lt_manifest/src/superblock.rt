@@ -15,13 +15,15 @@ use std::alloc::Global;
 /// Reads the geometry from block 0. `Damaged(0)` where the device has no block, block 0 spells no
 /// superblock, or the device is too small for the fixed regions.
 pub fn read_geometry<D: Device>(alloc: Global, device: &mut D) -> Result<Geometry, OpenFault>
-    ensures read { IfOk result (λ geometry. ForSome (D.state device.old).shown (λ image. geometry_in image ≡ Ok geometry)) }
+    ensures read { IfOk result (λ geometry. ForSome (D.state device.old).shown
+        (λ image. geometry_in image ≡ Ok geometry)) }
 
     // Whatever the device tells.
     ensures valid { IfOk result (λ geometry. IsTrue (is_geometry geometry)) }
     ensures room { IfOk result (λ geometry. blocks_needed geometry 0 ≤ D.blocks device.old) }
 
-    ensures damaged { (b : ℕ) → IsErrOf result (OpenFault.Damaged b) → ForSome (D.state device.old).shown (λ image. geometry_in image ≡ Err b) }
+    ensures damaged { (b : ℕ) → IsErrOf result (OpenFault.Damaged b)
+        → ForSome (D.state device.old).shown (λ image. geometry_in image ≡ Err b) }
     ensures damaged_block { (b : ℕ) → IsErrOf result (OpenFault.Damaged b) → b ≡ 0 }
     ensures calls { OnlyReads D.Device 1 (IsErrOf result OpenFault.Device) device.old device.new }
     ensures none { D.blocks device.old ≡ 0 → D.reads device.new ≡ D.reads device.old }

@@ -33,11 +33,14 @@ freed_groups trie c = drop c.kept_groups (node_at trie c.node).groups
 -- the nodes that a change sets, each as it is then
 abbrev pub changed : Trie → format.Change → Trie
 changed trie (format.flush tables) = (root, format.appended (node_at trie root) tables) ∷ []
-changed trie (format.deal node dropped children) = map (dealt_entry trie) children ++ (node, format.without_oldest (node_at trie node) dropped) ∷ []
-changed trie (format.rewrite node tables groups) = (node, record { base = length tables; tables = tables; groups = groups }) ∷ []
+changed trie (format.deal node dropped children) =
+    map (dealt_entry trie) children ++ (node, format.without_oldest (node_at trie node) dropped) ∷ []
+changed trie (format.rewrite node tables groups) =
+    (node, record { base = length tables; tables = tables; groups = groups }) ∷ []
 
 -- whether the change sets the node
 abbrev pub sets : format.Change → NodeId → Bool
 sets (format.flush tables) id = same_node id root
-sets (format.deal node dropped children) id = same_node id node || list_any (λ (c : format.ChildChange). same_node id c.node) children
+sets (format.deal node dropped children) id =
+    same_node id node || list_any (λ (c : format.ChildChange). same_node id c.node) children
 sets (format.rewrite node tables groups) id = same_node id node

@@ -1,6 +1,7 @@
 //! The trie of piles.
 
-ghost use Rattle.std.specs.Prelude.{◌≡◌, ◌≤◌, ◌<◌, ◌^◌, [], ◌∷◌, ◌++◌, IfOk, OnOk, OnErr, IsTrue, map, take, drop, length};
+ghost use Rattle.std.specs.Prelude.{◌≡◌, ◌≤◌, ◌<◌, ◌^◌, [], ◌∷◌, ◌++◌, IfOk, OnOk, OnErr, IsTrue, map};
+ghost use Rattle.std.specs.Prelude.{take, drop, length};
 ghost use Rattle.std.specs.List.{flat_map};
 ghost use Rattle.lt_format.specs.Trie.{root, named, node_extents, table_total, node_at, with_node, is_node, is_shaped};
 ghost use Rattle.lt_format.specs.Changes.{are_new, fits, after_change, appended, freed, without_oldest};
@@ -49,6 +50,14 @@ impl Trie {
             nodes: Vec::new(alloc),
             tables: 0,
         })
+    }
+
+    /// How many levels the trie has, 2 to 5.
+    pub fn levels(&self) -> u8
+        ensures count { result ≡ self.now.levels }
+        ensures trie { IsView self.now }
+    {
+        self.levels
     }
 
     /// A node's pile, the oldest table first. Empty where the trie does not have the node.
@@ -111,9 +120,13 @@ impl Trie {
         groups: Numbers,
     ) -> Result<(), NoMemory>
         requires node { IsTrue (is_node self.old.levels node) }
-        requires shaped { IsTrue (is_shaped self.old.levels 65536 node (record { base = base; tables = tables; groups = groups })) }
+        requires shaped { IsTrue (is_shaped self.old.levels 65536 node
+            (record { base = base; tables = tables; groups = groups })) }
         requires new { IsTrue (are_new 65536 self.old.nodes (tables ++ groups)) }
-        ensures ok { OnOk result (self.new ≡ record self.old { nodes = with_node self.old.nodes node (record { base = base; tables = tables; groups = groups }) }) }
+        ensures ok { OnOk result (self.new ≡ record self.old {
+          nodes = with_node self.old.nodes node
+              (record { base = base; tables = tables; groups = groups });
+        }) }
         ensures err { OnErr result (self.new ≡ self.old) }
     {
         self.nodes.reserve(1)?;
@@ -130,13 +143,14 @@ impl Trie {
     pub fn fits(&self, change: &Change) -> bool
         ensures { result ≡ fits self.now.levels self.now.nodes (change_of change.now) }
     {
-        fitting::fits(self, self.levels, change)
+        fitting::fits(self, change)
     }
 
     /// Makes a change that fits. After an `Err` the trie is as before.
     pub fn apply(&mut self, alloc: Global, change: &Change) -> Result<(), NoMemory>
         requires { IsTrue (fits self.old.levels self.old.nodes (change_of change.now)) }
-        ensures ok { OnOk result (self.new ≡ record self.old { nodes = after_change self.old.nodes (change_of change.now) }) }
+        ensures ok { OnOk result (self.new
+            ≡ record self.old { nodes = after_change self.old.nodes (change_of change.now) }) }
         ensures err { OnErr result (self.new ≡ self.old) }
     {
         let entries = self.changed(alloc, change)?;
@@ -188,7 +202,8 @@ impl Trie {
     /// The nodes that a change sets, each as it is then.
     fn changed(&self, alloc: Global, change: &Change) -> Result<Vec<NodeEntry>, NoMemory>
         requires { IsTrue (fits self.now.levels self.now.nodes (change_of change.now)) }
-        ensures { IfOk result (λ entries. entries.items ≡ changed self.now.nodes (change_of change.now)) }
+        ensures { IfOk result (λ entries.
+            entries.items ≡ changed self.now.nodes (change_of change.now)) }
     {
         match change {
             Change::Flush { tables } => {
@@ -217,7 +232,8 @@ impl Trie {
 
     /// The root with tables behind its pile.
     fn flushed(&self, alloc: Global, tables: &[u32]) -> Result<NodeEntry, NoMemory>
-        ensures { IfOk result (λ entry. entry ≡ (root, appended (node_at self.now.nodes root) tables.now)) }
+        ensures { IfOk result (λ entry.
+            entry ≡ (root, appended (node_at self.now.nodes root) tables.now)) }
     {
         let root = NodeId {
             level: 0,
@@ -233,7 +249,8 @@ impl Trie {
 
     /// The children of a deal with what it gives them.
     fn given(&self, alloc: Global, children: &[ChildChange]) -> Result<Vec<NodeEntry>, NoMemory>
-        ensures { IfOk result (λ entries. entries.items ≡ map (dealt_entry self.now.nodes) (map child_of children.now)) }
+        ensures { IfOk result (λ entries.
+            entries.items ≡ map (dealt_entry self.now.nodes) (map child_of children.now)) }
     {
         let mut entries = Vec::new(alloc);
         for child in children {
@@ -258,7 +275,8 @@ impl Trie {
     /// Puts the groups that children do not keep behind the others.
     fn free_groups(&self, extents: &mut Vec<u32>, children: &[ChildChange]) -> Result<(), NoMemory>
         ensures { OnOk result (extents.new.items
-            ≡ extents.old.items ++ flat_map (freed_groups self.now.nodes) (map child_of children.now)) }
+            ≡ extents.old.items
+            ++ flat_map (freed_groups self.now.nodes) (map child_of children.now)) }
     {
         for child in children {
             let groups = behind(self.groups(child.node), child.kept_groups as usize);
@@ -269,7 +287,8 @@ impl Trie {
 
     /// A node without its oldest tables.
     fn taken(&self, alloc: Global, node: NodeId, dropped: usize) -> Result<NodeEntry, NoMemory>
-        ensures { IfOk result (λ entry. entry ≡ (node, without_oldest (node_at self.now.nodes node) dropped)) }
+        ensures { IfOk result (λ entry.
+            entry ≡ (node, without_oldest (node_at self.now.nodes node) dropped)) }
     {
         Ok(NodeEntry::of(
             node,
@@ -288,7 +307,8 @@ fn rewritten(
     groups: &[u32],
 ) -> Result<NodeEntry, NoMemory>
     requires { length tables.now < 2 ^ 32 }
-    ensures { IfOk result (λ entry. entry ≡ (node, record { base = length tables.now; tables = tables.now; groups = groups.now })) }
+    ensures { IfOk result (λ entry. entry
+        ≡ (node, record { base = length tables.now; tables = tables.now; groups = groups.now })) }
 {
     Ok(NodeEntry::of(
         node,

@@ -1,9 +1,11 @@
 //! The extent numbers of a node.
 
-ghost use Rattle.std.specs.Prelude.{◌≡◌, ℕ, ◌++◌, ◌∷◌, ◌&&◌, ◌<◌, ◌≤◌, List, not, nat_lt, length, Ok, Err, IfOk, IfErr, IsErrOf, slice_index};
+ghost use Rattle.std.specs.Prelude.{◌≡◌, ℕ, ◌++◌, ◌∷◌, ◌&&◌, ◌<◌, ◌≤◌, List, not, nat_lt, length, Ok, Err, IfOk, IfErr};
+ghost use Rattle.std.specs.Prelude.{IsErrOf, slice_index};
 ghost use Rattle.std.specs.Int.{w32};
 ghost use Rattle.lt_terms.specs.Numbers.{is_in};
-ghost use Rattle.lt_format.specs.Snapshot.{field, extents_at};
+ghost use Rattle.lt_format.specs.Snapshot.{extents_at};
+ghost use Rattle.lt_manifest.specs.Area.{field_at};
 ghost use Rattle.lt_node.specs.Marks.{AreMarks};
 
 use crate::fault::ReadFault;
@@ -23,11 +25,14 @@ pub fn read_extents(
     requires marks { extents ≤ length marks.old }
     requires within { at ≤ length bytes.now }
     ensures read { IfOk result (λ read. (before : List ℕ) → AreMarks marks.old before
-        → extents_at (slice_index bytes.now) (length bytes.now) extents count before at ≡ Ok (read.0.items, read.1)) }
-    ensures marked { IfOk result (λ read. (before : List ℕ) → AreMarks marks.old before → AreMarks marks.new (read.0.items ++ before)) }
+        → extents_at (slice_index bytes.now) (length bytes.now) extents count before at
+        ≡ Ok (read.0.items, read.1)) }
+    ensures marked { IfOk result (λ read. (before : List ℕ) → AreMarks marks.old before
+        → AreMarks marks.new (read.0.items ++ before)) }
     ensures count { IfOk result (λ read. length read.0.items ≡ count) }
     ensures place { IfOk result (λ read. read.1 ≤ length bytes.now) }
-    ensures fault { (e : ℕ) → IsErrOf result (ReadFault.Field e) → (before : List ℕ) → AreMarks marks.old before
+    ensures fault { (e : ℕ) → IsErrOf result (ReadFault.Field e) → (before : List ℕ)
+        → AreMarks marks.old before
         → extents_at (slice_index bytes.now) (length bytes.now) extents count before at ≡ Err e }
     ensures fault_place { (e : ℕ) → IsErrOf result (ReadFault.Field e) → e ≤ length bytes.now }
 {
@@ -51,8 +56,9 @@ fn read_extent(
     requires marks { extents ≤ length marks.old }
     requires within { at ≤ length bytes.now }
     ensures read { (before : List ℕ) → AreMarks marks.old before
-        → result ≡ field (slice_index bytes.now) (length bytes.now) w32 (λ x. nat_lt x extents && not (is_in x before)) at }
-    ensures marked { IfOk result (λ read. (before : List ℕ) → AreMarks marks.old before → AreMarks marks.new (read.0 ∷ before)) }
+        → result ≡ field_at bytes.now w32 (λ x. nat_lt x extents && not (is_in x before)) at }
+    ensures marked { IfOk result (λ read. (before : List ℕ) → AreMarks marks.old before
+        → AreMarks marks.new (read.0 ∷ before)) }
     ensures place { IfOk result (λ read. read.1 ≤ length bytes.now) }
     ensures fault { IfErr result (λ e. e ≡ at) }
 {

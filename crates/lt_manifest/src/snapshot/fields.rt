@@ -1,19 +1,19 @@
 //! The numbers that stand in bytes, big-endian.
 
-ghost use Rattle.std.specs.Prelude.{◌≡◌, ◌+◌, length, nat_le, Some, None, slice_index, if◌then◌else◌};
+ghost use Rattle.std.specs.Prelude.{◌≡◌};
 ghost use Rattle.std.specs.Int.{w8, w16, w32, w64};
-ghost use Rattle.lt_format.specs.Snapshot.{number_in};
+ghost use Rattle.lt_manifest.specs.Area.{number_at};
 
 /// The number in the byte at a place, if there is one.
 pub fn number_u8(bytes: &[u8], at: usize) -> Option<u8>
-    ensures { result ≡ (if nat_le (at + 1) (length bytes.now) then Some (number_in w8 (slice_index bytes.now) at) else None) }
+    ensures { result ≡ number_at bytes.now w8 at }
 {
     bytes.get(at).copied()
 }
 
 /// The number in the two bytes from a place on, if there are two.
 pub fn number_u16(bytes: &[u8], at: usize) -> Option<u16>
-    ensures { result ≡ (if nat_le (at + 2) (length bytes.now) then Some (number_in w16 (slice_index bytes.now) at) else None) }
+    ensures { result ≡ number_at bytes.now w16 at }
 {
     if bytes.len() < 2 || at > bytes.len() - 2 {
         return None;
@@ -23,7 +23,7 @@ pub fn number_u16(bytes: &[u8], at: usize) -> Option<u16>
 
 /// The number in the four bytes from a place on, if there are four.
 pub fn number_u32(bytes: &[u8], at: usize) -> Option<u32>
-    ensures { result ≡ (if nat_le (at + 4) (length bytes.now) then Some (number_in w32 (slice_index bytes.now) at) else None) }
+    ensures { result ≡ number_at bytes.now w32 at }
 {
     if bytes.len() < 4 || at > bytes.len() - 4 {
         return None;
@@ -33,7 +33,7 @@ pub fn number_u32(bytes: &[u8], at: usize) -> Option<u32>
 
 /// The number in the eight bytes from a place on, if there are eight.
 pub fn number_u64(bytes: &[u8], at: usize) -> Option<u64>
-    ensures { result ≡ (if nat_le (at + 8) (length bytes.now) then Some (number_in w64 (slice_index bytes.now) at) else None) }
+    ensures { result ≡ number_at bytes.now w64 at }
 {
     if bytes.len() < 8 || at > bytes.len() - 8 {
         return None;

@@ -1,8 +1,10 @@
 //! The header of a snapshot: its first 40 bytes.
 
-ghost use Rattle.std.specs.Prelude.{◌≡◌, ◌+◌, ◌*◌, ◌^◌, ◌<◌, ◌≤◌, ◌==◌, ◌&&◌, length, nat_le, Ok, Err, IfOk, IfErr, IsTrue, MatchResult, slice_index};
+ghost use Rattle.std.specs.Prelude.{◌≡◌, ◌+◌, ◌*◌, ◌^◌, ◌<◌, ◌≤◌, ◌==◌, ◌&&◌, length, nat_le, Ok, Err, IfOk, IfErr};
+ghost use Rattle.std.specs.Prelude.{IsTrue, MatchResult, slice_index};
 ghost use Rattle.std.specs.Int.{w8, w16, w32, w64};
-ghost use Rattle.lt_format.specs.Snapshot.{field, front_read, is_zero, extents_stand, always};
+ghost use Rattle.lt_manifest.specs.Area.{field_at, front_of};
+ghost use Rattle.lt_format.specs.Snapshot.{front_read, is_zero, extents_stand, always};
 
 use crate::snapshot::fields::{number_u8, number_u16, number_u32, number_u64};
 use lt_format::{Geometry, Header};
@@ -22,10 +24,11 @@ pub struct Front {
 pub fn read_front(geometry: &Geometry, blocks: u64, bytes: &[u8]) -> Result<Front, usize>
     requires { length bytes.now ≡ 40 }
     ensures read { MatchResult result
-        (λ front. front_read geometry.now blocks (slice_index bytes.now) ≡ Ok (record { header = front.header; nodes = front.nodes; total = front.total }))
+        (λ front. front_read geometry.now blocks (slice_index bytes.now) ≡ Ok (front_of front))
         (λ at. front_read geometry.now blocks (slice_index bytes.now) ≡ Err at) }
     ensures log_area { IfOk result (λ front. front.header.log_area < 2) }
-    ensures stands { IfOk result (λ front. IsTrue (extents_stand geometry.now blocks front.header.extents)) }
+    ensures stands { IfOk result (λ front.
+        IsTrue (extents_stand geometry.now blocks front.header.extents)) }
     ensures writes { IfOk result (λ front. front.header.writes < 2 ^ 64) }
     ensures least { IfOk result (λ front. 40 ≤ front.total) }
     ensures most { IfOk result (λ front. front.total ≤ 40 + 19 * front.header.extents) }
@@ -52,7 +55,7 @@ pub fn read_front(geometry: &Geometry, blocks: u64, bytes: &[u8]) -> Result<Fron
 }
 
 fn format_field(bytes: &[u8]) -> Result<(u8, usize), usize>
-    ensures { result ≡ field (slice_index bytes.now) (length bytes.now) w8 (λ n. n == 1) 0 }
+    ensures { result ≡ field_at bytes.now w8 (λ n. n == 1) 0 }
 {
     match number_u8(bytes, 0) {
         Some(format) if format == 1 => Ok((format, 1)),
@@ -61,7 +64,7 @@ fn format_field(bytes: &[u8]) -> Result<(u8, usize), usize>
 }
 
 fn log_area_field(bytes: &[u8]) -> Result<(u8, usize), usize>
-    ensures read { result ≡ field (slice_index bytes.now) (length bytes.now) w8 (λ n. nat_le n 1) 1 }
+    ensures read { result ≡ field_at bytes.now w8 (λ n. nat_le n 1) 1 }
     ensures small { IfOk result (λ read. read.0 < 2) }
 {
     match number_u8(bytes, 1) {
@@ -71,7 +74,7 @@ fn log_area_field(bytes: &[u8]) -> Result<(u8, usize), usize>
 }
 
 fn extents_field(geometry: &Geometry, blocks: u64, bytes: &[u8]) -> Result<(u32, usize), usize>
-    ensures read { result ≡ field (slice_index bytes.now) (length bytes.now) w32 (extents_stand geometry.now blocks) 4 }
+    ensures read { result ≡ field_at bytes.now w32 (extents_stand geometry.now blocks) 4 }
     ensures stands { IfOk result (λ read. IsTrue (extents_stand geometry.now blocks read.0)) }
 {
     match number_u32(bytes, 4) {
@@ -88,7 +91,7 @@ pub fn has_room(geometry: &Geometry, blocks: u64, extents: u32) -> bool
 }
 
 fn writes_field(bytes: &[u8]) -> Result<(u64, usize), usize>
-    ensures read { result ≡ field (slice_index bytes.now) (length bytes.now) w64 always 8 }
+    ensures read { result ≡ field_at bytes.now w64 always 8 }
     ensures small { IfOk result (λ read. read.0 < 2 ^ 64) }
 {
     match number_u64(bytes, 8) {
@@ -98,7 +101,7 @@ fn writes_field(bytes: &[u8]) -> Result<(u64, usize), usize>
 }
 
 fn nodes_field(bytes: &[u8], extents: u32) -> Result<(u32, usize), usize>
-    ensures { result ≡ field (slice_index bytes.now) (length bytes.now) w32 (λ n. nat_le n extents) 16 }
+    ensures { result ≡ field_at bytes.now w32 (λ n. nat_le n extents) 16 }
 {
     match number_u32(bytes, 16) {
         Some(nodes) if nodes <= extents => Ok((nodes, 20)),
@@ -107,7 +110,8 @@ fn nodes_field(bytes: &[u8], extents: u32) -> Result<(u32, usize), usize>
 }
 
 fn total_field(bytes: &[u8], extents: u32) -> Result<(u32, usize), usize>
-    ensures read { result ≡ field (slice_index bytes.now) (length bytes.now) w32 (λ n. nat_le 40 n && nat_le n (40 + 19 * extents)) 20 }
+    ensures read { result ≡ field_at bytes.now w32
+        (λ n. nat_le 40 n && nat_le n (40 + 19 * extents)) 20 }
     ensures least { IfOk result (λ read. 40 ≤ read.0) }
     ensures most { IfOk result (λ read. read.0 ≤ 40 + 19 * extents) }
 {
@@ -119,7 +123,7 @@ fn total_field(bytes: &[u8], extents: u32) -> Result<(u32, usize), usize>
 
 fn zero_field_u16(bytes: &[u8], at: usize) -> Result<(u16, usize), usize>
     requires { at + 2 ≤ length bytes.now }
-    ensures { result ≡ field (slice_index bytes.now) (length bytes.now) w16 is_zero at }
+    ensures { result ≡ field_at bytes.now w16 is_zero at }
 {
     match number_u16(bytes, at) {
         Some(number) if number == 0 => Ok((number, at + 2)),
@@ -129,7 +133,7 @@ fn zero_field_u16(bytes: &[u8], at: usize) -> Result<(u16, usize), usize>
 
 fn zero_field_u64(bytes: &[u8], at: usize) -> Result<(u64, usize), usize>
     requires { at + 8 ≤ length bytes.now }
-    ensures { result ≡ field (slice_index bytes.now) (length bytes.now) w64 is_zero at }
+    ensures { result ≡ field_at bytes.now w64 is_zero at }
 {
     match number_u64(bytes, at) {
         Some(number) if number == 0 => Ok((number, at + 8)),

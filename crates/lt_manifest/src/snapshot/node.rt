@@ -1,14 +1,16 @@
 //! A node of a snapshot: its fields, and then its extent numbers.
 
 ghost use Rattle.std.specs.Prelude.{◌≡◌, ℕ, ◌+◌, ◌^◌, ◌++◌, ◌≤◌, ◌==◌, ◌&&◌, List, length, nat_le, nat_lt};
-ghost use Rattle.std.specs.Prelude.{Ok, Err, IfOk, IfErr, IsErrOf, IsTrue, MatchResult, slice_index, None, [], false, replicate, if◌then◌else◌};
+ghost use Rattle.std.specs.Prelude.{Ok, Err, IfOk, IfErr, IsErrOf, IsTrue, MatchResult, slice_index, None, [], false};
+ghost use Rattle.std.specs.Prelude.{replicate, if◌then◌else◌};
 ghost use Rattle.std.specs.Int.{w8, w16, w32};
 ghost use Rattle.lt_format.specs.Trie as tries;
 ghost use Rattle.lt_format.specs.Trie.{is_last_level, is_node, is_shaped, groups_for, named, node_extents, IsTrie};
 ghost use Rattle.lt_format.specs.Changes.{are_new};
-ghost use Rattle.lt_format.specs.Snapshot.{field, node_read, nodes_read, extents_of, follows};
+ghost use Rattle.lt_format.specs.Snapshot.{node_read, nodes_read, extents_of, follows};
 ghost use Rattle.lt_node.specs.Marks.{AreMarks};
-ghost use Rattle.lt_manifest.specs.Shape.{entry_of, shape_read};
+ghost use Rattle.lt_manifest.specs.Area.{field_at};
+ghost use Rattle.lt_manifest.specs.Shape.{entry_of, shape_of, shape_read};
 
 use crate::fault::ReadFault;
 use crate::snapshot::extents::read_extents;
@@ -40,10 +42,14 @@ pub fn read_nodes(
     requires extents { extents ≤ 65536 }
     requires marks { marks.old ≡ replicate extents false }
     requires within { 40 ≤ length bytes.now }
-    ensures read { IfOk result (λ read. nodes_read (slice_index bytes.now) (length bytes.now) levels extents count None [] 40 ≡ Ok (read.0.nodes, read.1)) }
+    ensures read { IfOk result (λ read.
+        nodes_read (slice_index bytes.now) (length bytes.now) levels extents count None [] 40
+        ≡ Ok (read.0.nodes, read.1)) }
     ensures levels { IfOk result (λ read. read.0.levels ≡ levels) }
     ensures trie { IfOk result (λ read. IsTrie levels extents read.0.nodes) }
-    ensures fault { (e : ℕ) → IsErrOf result (ReadFault.Field e) → nodes_read (slice_index bytes.now) (length bytes.now) levels extents count None [] 40 ≡ Err e }
+    ensures fault { (e : ℕ) → IsErrOf result (ReadFault.Field e)
+        → nodes_read (slice_index bytes.now) (length bytes.now) levels extents count None [] 40
+        ≡ Err e }
     ensures fault_place { (e : ℕ) → IsErrOf result (ReadFault.Field e) → e ≤ length bytes.now }
 {
     let mut trie = Trie::new(alloc, levels)?;
@@ -78,16 +84,22 @@ fn read_node(
     requires marks { extents ≤ length marks.old }
     requires within { at ≤ length bytes.now }
     ensures read { IfOk result (λ read. (before : List ℕ) → AreMarks marks.old before
-        → node_read (slice_index bytes.now) (length bytes.now) levels extents last before at ≡ Ok (entry_of read.0, read.1)) }
-    ensures marked { IfOk result (λ read. (before : List ℕ) → AreMarks marks.old before → AreMarks marks.new (extents_of (entry_of read.0) ++ before)) }
+        → node_read (slice_index bytes.now) (length bytes.now) levels extents last before at
+        ≡ Ok (entry_of read.0, read.1)) }
+    ensures marked { IfOk result (λ read. (before : List ℕ) → AreMarks marks.old before
+        → AreMarks marks.new (extents_of (entry_of read.0) ++ before)) }
     ensures node { IfOk result (λ read. IsTrue (is_node levels read.0.id)) }
     ensures follows { IfOk result (λ read. IsTrue (follows last read.0.id)) }
     ensures some { IfOk result (λ read. 1 ≤ length read.0.tables.items) }
-    ensures shaped { IfOk result (λ read. IsTrue (is_shaped levels extents read.0.id (entry_of read.0).1)) }
-    ensures new { IfOk result (λ read. (trie : tries.Trie) → AreMarks marks.old (named trie) → IsTrue (are_new extents trie (node_extents (entry_of read.0).1))) }
+    ensures shaped { IfOk result (λ read.
+        IsTrue (is_shaped levels extents read.0.id (entry_of read.0).1)) }
+    ensures new { IfOk result (λ read. (trie : tries.Trie) → AreMarks marks.old (named trie)
+        → IsTrue (are_new extents trie (node_extents (entry_of read.0).1))) }
     ensures place { IfOk result (λ read. read.1 ≤ length bytes.now) }
-    ensures fault { (e : ℕ) → IsErrOf result (ReadFault.Field e) → (before : List ℕ) → AreMarks marks.old before
-        → node_read (slice_index bytes.now) (length bytes.now) levels extents last before at ≡ Err e }
+    ensures fault { (e : ℕ) → IsErrOf result (ReadFault.Field e) → (before : List ℕ)
+        → AreMarks marks.old before
+        → node_read (slice_index bytes.now) (length bytes.now) levels extents last before at
+        ≡ Err e }
     ensures fault_place { (e : ℕ) → IsErrOf result (ReadFault.Field e) → e ≤ length bytes.now }
 {
     let (shape, at_tables) = read_shape(levels, extents, last, bytes, at)?;
@@ -126,13 +138,16 @@ pub fn read_shape(
     requires levels { levels ≤ 5 }
     requires within { at ≤ length bytes.now }
     ensures read { MatchResult result
-        (λ read. shape_read (slice_index bytes.now) (length bytes.now) levels extents last at ≡ Ok (record { id = read.0.id; base = read.0.base; tables = read.0.tables; groups = read.0.groups }, read.1))
+        (λ read. shape_read (slice_index bytes.now) (length bytes.now) levels extents last at
+        ≡ Ok (shape_of read.0, read.1))
         (λ e. shape_read (slice_index bytes.now) (length bytes.now) levels extents last at ≡ Err e) }
     ensures node { IfOk result (λ read. IsTrue (is_node levels read.0.id)) }
     ensures follows { IfOk result (λ read. IsTrue (follows last read.0.id)) }
-    ensures base { IfOk result (λ read. read.0.base ≤ (if is_last_level levels read.0.id then extents else 0)) }
+    ensures base { IfOk result (λ read.
+        read.0.base ≤ (if is_last_level levels read.0.id then extents else 0)) }
     ensures some { IfOk result (λ read. 1 ≤ read.0.tables) }
-    ensures groups { IfOk result (λ read. read.0.groups ≡ (if is_last_level levels read.0.id then groups_for read.0.tables else 0)) }
+    ensures groups { IfOk result (λ read.
+        read.0.groups ≡ (if is_last_level levels read.0.id then groups_for read.0.tables else 0)) }
     ensures place { IfOk result (λ read. read.1 ≤ length bytes.now) }
     ensures fault_place { IfErr result (λ e. e ≤ length bytes.now) }
 {
@@ -155,7 +170,7 @@ pub fn read_shape(
 }
 
 fn level_field(levels: u8, bytes: &[u8], at: usize) -> Result<(u8, usize), usize>
-    ensures read { result ≡ field (slice_index bytes.now) (length bytes.now) w8 (λ l. nat_lt l levels) at }
+    ensures read { result ≡ field_at bytes.now w8 (λ l. nat_lt l levels) at }
     ensures small { IfOk result (λ read. read.0 + 1 ≤ levels) }
     ensures place { IfOk result (λ read. read.1 ≤ length bytes.now) }
 {
@@ -172,8 +187,11 @@ fn number_field(
     at: usize,
 ) -> Result<(u16, usize), usize>
     requires { level ≤ 4 }
-    ensures read { result ≡ field (slice_index bytes.now) (length bytes.now) w16 (λ n. nat_lt n (8 ^ level) && follows last (record { level = level; number = n })) at }
-    ensures next { IfOk result (λ read. IsTrue (nat_lt read.0 (8 ^ level) && follows last (record { level = level; number = read.0 }))) }
+    ensures read { result ≡ field_at bytes.now w16
+        (λ n. nat_lt n (8 ^ level) && follows last (record { level = level; number = n })) at }
+    ensures next { IfOk result (λ read.
+        IsTrue (nat_lt read.0 (8 ^ level)
+        && follows last (record { level = level; number = read.0 }))) }
     ensures place { IfOk result (λ read. read.1 ≤ length bytes.now) }
 {
     match number_u16(bytes, at) {
@@ -185,7 +203,8 @@ fn number_field(
 /// Whether there is such a node at the level, and it comes after the last one.
 fn is_next(level: u8, number: u16, last: Option<NodeId>) -> bool
     requires { level ≤ 4 }
-    ensures { result ≡ (nat_lt number (8 ^ level) && follows last (record { level = level; number = number })) }
+    ensures { result ≡ (nat_lt number (8 ^ level)
+        && follows last (record { level = level; number = number })) }
 {
     (number as u32) < 8u32.pow(level as u32) && follows(last, level, number)
 }
@@ -206,7 +225,8 @@ fn follows(last: Option<NodeId>, level: u8, number: u16) -> bool
 
 /// The base, which is 0 above the last level.
 fn base_field(is_last: bool, extents: u32, bytes: &[u8], at: usize) -> Result<(u32, usize), usize>
-    ensures read { result ≡ field (slice_index bytes.now) (length bytes.now) w32 (λ m. nat_le m (if is_last then extents else 0)) at }
+    ensures read { result ≡ field_at bytes.now w32
+        (λ m. nat_le m (if is_last then extents else 0)) at }
     ensures most { IfOk result (λ read. read.0 ≤ (if is_last then extents else 0)) }
     ensures place { IfOk result (λ read. read.1 ≤ length bytes.now) }
 {
@@ -218,7 +238,7 @@ fn base_field(is_last: bool, extents: u32, bytes: &[u8], at: usize) -> Result<(u
 }
 
 fn tables_field(extents: u32, bytes: &[u8], at: usize) -> Result<(u32, usize), usize>
-    ensures read { result ≡ field (slice_index bytes.now) (length bytes.now) w32 (λ t. nat_le 1 t && nat_le t extents) at }
+    ensures read { result ≡ field_at bytes.now w32 (λ t. nat_le 1 t && nat_le t extents) at }
     ensures some { IfOk result (λ read. 1 ≤ read.0) }
     ensures place { IfOk result (λ read. read.1 ≤ length bytes.now) }
 {
@@ -230,7 +250,8 @@ fn tables_field(extents: u32, bytes: &[u8], at: usize) -> Result<(u32, usize), u
 
 /// The number of groups, which is 0 above the last level.
 fn groups_field(is_last: bool, tables: u32, bytes: &[u8], at: usize) -> Result<(u32, usize), usize>
-    ensures read { result ≡ field (slice_index bytes.now) (length bytes.now) w32 (λ g. g == (if is_last then groups_for tables else 0)) at }
+    ensures read { result ≡ field_at bytes.now w32
+        (λ g. g == (if is_last then groups_for tables else 0)) at }
     ensures wanted { IfOk result (λ read. read.0 ≡ (if is_last then groups_for tables else 0)) }
     ensures place { IfOk result (λ read. read.1 ≤ length bytes.now) }
 {

@@ -1,13 +1,14 @@
 //! Reading the snapshot of a manifest area.
 
-ghost use Rattle.std.specs.Prelude.{◌≡◌, ℕ, ◌+◌, ◌-◌, ◌*◌, ◌/◌, ◌^◌, ◌<◌, ◌≤◌, Ok, Err, ◌++◌, IfOk, IsErrOf, IsTrue, OnOk, length, slice_index, take};
+ghost use Rattle.std.specs.Prelude.{◌≡◌, ℕ, ◌+◌, ◌-◌, ◌*◌, ◌/◌, ◌^◌, ◌<◌, ◌≤◌, Ok, Err, ◌++◌, IfOk, IsErrOf, IsTrue};
+ghost use Rattle.std.specs.Prelude.{OnOk, length, slice_index, take};
 ghost use Rattle.std.specs.Option.{ForSome};
 ghost use Rattle.lt_terms.specs.Bytes.{block_at};
 ghost use Rattle.lt_device.specs.Calls.{OnlyReads};
 ghost use Rattle.lt_format.specs.Layout.{is_geometry, area_block};
 ghost use Rattle.lt_format.specs.Trie.{IsTrie};
 ghost use Rattle.lt_format.specs.Snapshot.{front_read, extents_stand, area_byte, snapshot_in, IsManifest};
-ghost use Rattle.lt_manifest.specs.Area.{AreBytesFrom, after_front};
+ghost use Rattle.lt_manifest.specs.Area.{AreBytesFrom, after_front, front_of};
 ghost use Rattle.lt_manifest.specs.Opened.{InSnapshot};
 
 use crate::fault::ReadFault;
@@ -32,10 +33,15 @@ pub fn read_snapshot<D: Device>(
     requires valid { IsTrue (is_geometry geometry.now) }
     requires area { area < 2 }
     requires within { 868 ≤ D.blocks device.old }
-    ensures read { IfOk result (λ read. ForSome (D.state device.old).shown (λ image. snapshot_in geometry.now image area ≡ Ok (record { header = read.0; trie = read.1.nodes }))) }
+    ensures read { IfOk result (λ read. ForSome (D.state device.old).shown
+        (λ image. snapshot_in geometry.now image area
+        ≡ Ok (record { header = read.0; trie = read.1.nodes }))) }
     ensures levels { IfOk result (λ read. read.1.levels ≡ geometry.now.levels) }
-    ensures stands { IfOk result (λ read. IsManifest geometry.now (D.blocks device.old) (record { header = read.0; trie = read.1.nodes })) }
-    ensures damaged { (b : ℕ) → IsErrOf result (OpenFault.Damaged b) → ForSome (D.state device.old).shown (λ image. snapshot_in geometry.now image area ≡ Err b) }
+    ensures stands { IfOk result (λ read. IsManifest geometry.now (D.blocks device.old)
+        (record { header = read.0; trie = read.1.nodes })) }
+    ensures damaged { (b : ℕ) → IsErrOf result (OpenFault.Damaged b)
+        → ForSome (D.state device.old).shown
+        (λ image. snapshot_in geometry.now image area ≡ Err b) }
     ensures damaged_block { (b : ℕ) → IsErrOf result (OpenFault.Damaged b) → InSnapshot b }
     ensures calls { OnlyReads D.Device 305 (IsErrOf result OpenFault.Device) device.old device.new }
 {
@@ -53,7 +59,8 @@ pub fn read_snapshot<D: Device>(
 /// The fault of an area that begins at this block.
 fn fault_from(first: u64, fault: ReadFault) -> OpenFault
     requires { first < 868 }
-    ensures damaged { (b : ℕ) → result ≡ OpenFault.Damaged b → (e : ℕ) × (fault ≡ ReadFault.Field e) × (b ≡ first + e / 4096) }
+    ensures damaged { (b : ℕ) → result ≡ OpenFault.Damaged b
+        → (e : ℕ) × (fault ≡ ReadFault.Field e) × (b ≡ first + e / 4096) }
     ensures device { result ≡ OpenFault.Device → ⊥ }
 {
     match fault {
@@ -82,15 +89,19 @@ fn read_header<D: Device>(
     requires area { area < 2 }
     requires within { 868 ≤ D.blocks device.old }
     ensures read { IfOk result (λ front. ForSome (D.state device.old).shown (λ image.
-        front_read geometry.now blocks (area_byte image area) ≡ Ok (record { header = front.header; nodes = front.nodes; total = front.total }))) }
-    ensures page { IfOk result (λ front. ForSome (D.state device.old).shown (λ image. page.new ≡ block_at image (area_block area))) }
+        front_read geometry.now blocks (area_byte image area) ≡ Ok (front_of front))) }
+    ensures page { IfOk result (λ front. ForSome (D.state device.old).shown
+        (λ image. page.new ≡ block_at image (area_block area))) }
     ensures log_area { IfOk result (λ front. front.header.log_area < 2) }
-    ensures stands { IfOk result (λ front. IsTrue (extents_stand geometry.now blocks front.header.extents)) }
+    ensures stands { IfOk result (λ front.
+        IsTrue (extents_stand geometry.now blocks front.header.extents)) }
     ensures writes { IfOk result (λ front. front.header.writes < 2 ^ 64) }
     ensures least { IfOk result (λ front. 40 ≤ front.total) }
     ensures most { IfOk result (λ front. front.total ≤ 40 + 19 * front.header.extents) }
-    ensures damaged { (b : ℕ) → IsErrOf result (OpenFault.Damaged b) → ForSome (D.state device.old).shown (λ image.
-        (e : ℕ) × (front_read geometry.now blocks (area_byte image area) ≡ Err e) × (b ≡ area_block area + e / 4096)) }
+    ensures damaged { (b : ℕ) → IsErrOf result (OpenFault.Damaged b)
+        → ForSome (D.state device.old).shown (λ image.
+        (e : ℕ) × (front_read geometry.now blocks (area_byte image area) ≡ Err e)
+        × (b ≡ area_block area + e / 4096)) }
     ensures damaged_block { (b : ℕ) → IsErrOf result (OpenFault.Damaged b) → b ≡ area_block area }
     ensures calls { OnlyReads D.Device 1 (IsErrOf result OpenFault.Device) device.old device.new }
 {
@@ -114,7 +125,8 @@ fn read_bytes<D: Device>(
     requires within { first + count ≤ D.blocks device.old }
     requires few { count ≤ 305 }
     ensures length { IfOk result (λ bytes. length bytes.items ≡ 4096 * count) }
-    ensures read { IfOk result (λ bytes. ForSome (D.state device.old).shown (λ image. page.old ≡ block_at image first → AreBytesFrom image first bytes.items)) }
+    ensures read { IfOk result (λ bytes. ForSome (D.state device.old).shown
+        (λ image. page.old ≡ block_at image first → AreBytesFrom image first bytes.items)) }
     ensures damaged { (b : ℕ) → IsErrOf result (OpenFault.Damaged b) → ⊥ }
     ensures calls { OnlyReads D.Device (count - 1) (IsErrOf result OpenFault.Device)
         device.old device.new }
@@ -155,10 +167,15 @@ fn read_trie(
     requires extents { front.now.header.extents ≤ 65536 }
     requires total { length bytes.now ≡ front.now.total }
     requires header { 40 ≤ front.now.total }
-    ensures read { IfOk result (λ trie. after_front geometry.now (slice_index bytes.now) (record { header = front.now.header; nodes = front.now.nodes; total = front.now.total }) ≡ Ok (record { header = front.now.header; trie = trie.nodes })) }
+    ensures read { IfOk result (λ trie.
+        after_front geometry.now (slice_index bytes.now) (front_of front.now)
+        ≡ Ok (record { header = front.now.header; trie = trie.nodes })) }
     ensures levels { IfOk result (λ trie. trie.levels ≡ geometry.now.levels) }
-    ensures trie { IfOk result (λ trie. IsTrie geometry.now.levels front.now.header.extents trie.nodes) }
-    ensures fault { (e : ℕ) → IsErrOf result (ReadFault.Field e) → after_front geometry.now (slice_index bytes.now) (record { header = front.now.header; nodes = front.now.nodes; total = front.now.total }) ≡ Err e }
+    ensures trie { IfOk result (λ trie.
+        IsTrie geometry.now.levels front.now.header.extents trie.nodes) }
+    ensures fault { (e : ℕ) → IsErrOf result (ReadFault.Field e)
+        → after_front geometry.now (slice_index bytes.now) (front_of front.now)
+        ≡ Err e }
     ensures fault_place { (e : ℕ) → IsErrOf result (ReadFault.Field e) → e ≤ length bytes.now }
 {
     let mut marks = vec![in alloc; false; front.header.extents as usize]?;

@@ -5,22 +5,23 @@ ghost use Rattle.lt_format.specs.Snapshot.{node_bytes, nodes_bytes, numbers, sna
 
 use lt_format::{Header, NodeId};
 use lt_node::NodeEntry;
-use lt_page::{NoMemory, Page};
+use lt_page::NoMemory;
 use std::alloc::Global;
 
-/// An empty vector that has room for any snapshot.
-pub fn snapshot_room(alloc: Global) -> Result<Vec<u8>, NoMemory>
+/// An empty vector that has room for the snapshot of a trie with so many extents.
+pub fn snapshot_room(alloc: Global, extents: u32) -> Result<Vec<u8>, NoMemory>
     ensures empty { IfOk result (λ bytes. bytes.items ≡ []) }
-    ensures room { IfOk result (λ bytes. 305 * 4096 ≤ vec_capacity bytes) }
+    ensures room { IfOk result (λ bytes. 40 + 19 * extents ≤ vec_capacity bytes) }
 {
-    Ok(Vec::with_capacity(alloc, 305 * Page::LEN)?)
+    Ok(Vec::with_capacity(alloc, 40 + 19 * extents as usize)?)
 }
 
 /// Puts the snapshot of a manifest into an empty vector that has room for it.
 pub fn spell(bytes: &mut Vec<u8>, header: &Header, nodes: &[NodeEntry])
     requires empty { bytes.old.items ≡ [] }
-    requires few { length (snapshot_bytes (record { header = header.now; trie = nodes.now })) ≤ 305 * 4096 }
-    requires room { 305 * 4096 ≤ vec_capacity bytes.old }
+    requires few { length (snapshot_bytes (record { header = header.now; trie = nodes.now }))
+        ≤ 305 * 4096 }
+    requires room { 40 + length (nodes_bytes nodes.now) ≤ vec_capacity bytes.old }
     ensures { bytes.new.items ≡ snapshot_bytes (record { header = header.now; trie = nodes.now }) }
 {
     let total = 40 + nodes_len(nodes);
@@ -55,7 +56,8 @@ fn node_len(entry: &NodeEntry) -> u32
 
 fn spell_nodes(bytes: &mut Vec<u8>, nodes: &[NodeEntry])
     requires few { length (nodes_bytes nodes.now) ≤ 305 * 4096 }
-    requires room { length bytes.old.items + length (nodes_bytes nodes.now) ≤ vec_capacity bytes.old }
+    requires room { length bytes.old.items + length (nodes_bytes nodes.now)
+        ≤ vec_capacity bytes.old }
     ensures { bytes.new.items ≡ bytes.old.items ++ nodes_bytes nodes.now }
 {
     for entry in nodes {
@@ -65,7 +67,8 @@ fn spell_nodes(bytes: &mut Vec<u8>, nodes: &[NodeEntry])
 
 fn spell_node(bytes: &mut Vec<u8>, entry: &NodeEntry)
     requires few { length (node_bytes entry.now) ≤ 305 * 4096 }
-    requires room { length bytes.old.items + length (node_bytes entry.now) ≤ vec_capacity bytes.old }
+    requires room { length bytes.old.items + length (node_bytes entry.now)
+        ≤ vec_capacity bytes.old }
     ensures bytes { bytes.new.items ≡ bytes.old.items ++ node_bytes entry.now }
     ensures capacity { vec_capacity bytes.old ≤ vec_capacity bytes.new }
 {
