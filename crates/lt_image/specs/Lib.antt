@@ -10,3 +10,4 @@ pub mod Bound
 pub mod Examples
 pub mod After
 pub mod Pressure
+pub mod Counts

@@ -1,8 +1,7 @@
 -- What a store keeps in memory, and the facts of it that hold whatever its device tells.
-use Rattle.std.specs.Prelude.{◌≡◌, ℕ, ◌+◌, ◌-◌, ◌<◌, ◌≤◌, Bool, not, List, ◌++◌, length, take, IsTrue}
+use Rattle.std.specs.Prelude.{◌≡◌, ℕ, ◌+◌, ◌-◌, ◌<◌, ◌≤◌, Bool, List, ◌++◌, length, take, IsTrue}
 use Rattle.lt_terms.specs.Items.{Item, total_cost}
-use Rattle.lt_terms.specs.Numbers.{is_in}
-use Rattle.lt_alloc.specs.Extents.{is_free}
+use Rattle.lt_alloc.specs.Extents.{AreTaken}
 use Rattle.lt_format.specs.Log.{group_room, log_fits}
 use Rattle.lt_format.specs.Naming.{Named}
 use Rattle.lt_format.specs.Trie.{named}
@@ -17,8 +16,11 @@ logged_count log memory = length memory - length log.pending
 abbrev pub logged : LogState → List Item → List Item
 logged log memory = take (logged_count log memory) memory
 
--- The log is that of the manifest; the memory table is the log's items and the pending ones, and fits; the number of writes counts them all; each group has an item; a group that is open has a slot; the extents that are taken are those that the manifest names, and there is a place for the filters of each.
-pub record IsKept (n : Named) (log : LogState) (memory : List Item) (taken : List Bool) (filters writes : ℕ) : Type 0 where
+-- The log is that of the manifest; the memory table is the log's items and the pending ones, and fits; the
+-- number of writes counts them all; each group has an item; a group that is open has a slot; the extents that
+-- are taken are those that the manifest names, and there is a place for the filters of each.
+pub record IsKept (n : Named) (log : LogState) (memory : List Item) (taken : List Bool)
+    (filters writes : ℕ) : Type 0 where
   pub manifest : opened.IsKept n
   pub geometry : log.geometry ≡ n.geometry
   pub area : log.area ≡ n.manifest.header.log_area
@@ -30,6 +32,5 @@ pub record IsKept (n : Named) (log : LogState) (memory : List Item) (taken : Lis
   pub within : log.slots ≤ n.geometry.slots
   pub slot : 0 < length log.pending → log.slots < n.geometry.slots
   pub room : total_cost log.pending ≤ group_room
-  pub extents : length taken ≡ n.manifest.header.extents
-  pub free : (x : ℕ) → x < n.manifest.header.extents → is_free taken x ≡ not (is_in x (named n.manifest.trie))
+  pub taken_named : AreTaken n.manifest.header.extents (named n.manifest.trie) taken
   pub filters_len : filters ≡ n.manifest.header.extents

@@ -1,14 +1,11 @@
 -- What a write that was taken leaves, and when one is refused for want of extents.
-use Rattle.std.specs.Prelude.{◌≡◌, ℕ, ◌+◌, ◌<◌, Bool, ◌&&◌, ◌||◌, List, [], ◌∷◌, Ok, IsTrue, nat_le, nat_lt, ◌==◌, length, if◌then◌else◌}
-use Rattle.lt_terms.specs.Bytes.{Image}
+use Rattle.std.specs.Prelude.{◌≡◌, ℕ, ◌+◌, ◌<◌, Bool, ◌&&◌, ◌||◌, List, [], ◌∷◌, IsTrue, nat_le, nat_lt, ◌==◌}
+use Rattle.std.specs.Prelude.{length, if◌then◌else◌}
 use Rattle.lt_terms.specs.Items.{Item, total_cost}
 use Rattle.lt_tables.specs.Cut.{table_total}
 use Rattle.lt_tables.specs.Merge.{newest}
 use Rattle.lt_alloc.specs.Extents.{free_count}
 use Rattle.lt_format.specs.Log.{group_room}
-use Rattle.lt_image.specs.Opening.{Opened, open_image}
-use Rattle.lt_image.specs.Pressure.{flush_tables, is_flush_due}
-use Rattle.lt_image.specs.Versions.{free_extents}
 use Rattle.lt_store.specs.declared.writing.Taken.{Taken}
 use Rattle.lt_store.specs.declared.writing.Taken.TheVariants as taken
 use Rattle.lt_store.specs.Committing.{committed}
@@ -24,9 +21,11 @@ accepted_by item taken.Limit = []
 abbrev pub is_due : StoreView → Bool
 is_due v = length v.log.pending == 0 && (v.log.slots == v.named.geometry.slots || nat_lt 200000 (total_cost v.memory))
 
--- the store as a write of this cost finds it: its open group is committed where the item has no room in it, or where the memory table has too many bytes
+-- the store as a write of this cost finds it: its open group is committed where the item has no room in it,
+-- or where the memory table has too many bytes
 abbrev pub readied : StoreView → ℕ → StoreView
-readied v cost = if nat_le (total_cost v.log.pending + cost) group_room && nat_le (total_cost v.memory) 200000 then v else committed v
+readied v cost = if nat_le (total_cost v.log.pending + cost) group_room && nat_le
+    (total_cost v.memory) 200000 then v else committed v
 
 -- a flush is due, and gives more tables than extents are free
 pub record IsFull (v : StoreView) (needed free : ℕ) : Type 0 where
@@ -34,11 +33,3 @@ pub record IsFull (v : StoreView) (needed free : ℕ) : Type 0 where
   pub needs : needed ≡ table_total (newest v.memory)
   pub has : free ≡ free_count v.taken
   pub short : free < needed
-
--- a flush is due on the image, and gives so many tables, with so many extents free
-pub record IsFullImage (image : Image) (needed free : ℕ) : Type 0 where
-  pub opened : Opened
-  pub opens : open_image image ≡ Ok opened
-  pub due : IsTrue (is_flush_due opened)
-  pub needs : flush_tables opened ≡ needed
-  pub has : free_extents opened.named ≡ free
