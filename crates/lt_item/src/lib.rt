@@ -10,7 +10,7 @@ mod view;
 pub use hash::{Parts, parts_of};
 pub use laws::writes_in_parts;
 pub use lt_terms::Kind;
-pub use rank::Rank;
+pub use rank::{Rank, rank_less};
 pub use spelling::{item_header, read_item, write_item};
 pub use view::{ItemView, KEY_LIMIT, VALUE_LIMIT, cost};
 

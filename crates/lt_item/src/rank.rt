@@ -3,7 +3,7 @@
 ghost use Rattle.std.specs.Prelude.{◌≡◌, refl};
 ghost use Rattle.std.specs.Cmp.{eq_by_cmp_equiv, partial_equiv_from_equiv, partial_order_from_total};
 ghost use Rattle.std.specs.Ordering.{as_partial_cmp, eq_by_cmp};
-ghost use Rattle.lt_terms.specs.Hashes.{rank_cmp};
+ghost use Rattle.lt_terms.specs.Hashes.{rank_cmp, ranks_below};
 ghost use Rattle.lt_tables.proofs.RankLaws.{rank_total};
 ghost use Rattle.lt_item.specs.Parts.{parts_of};
 
@@ -83,6 +83,15 @@ impl Ord for Rank<'_> {
     fn cmp(&self, other: &Self) -> Ordering {
         compare(&self.parts, self.key, &other.parts, other.key)
     }
+}
+
+/// Whether `a` stands before `b`: by suffix, then by hash, then by the bytes of the key.
+pub fn rank_less(a: &Parts, a_key: &[u8], b: &Parts, b_key: &[u8]) -> bool
+    requires a_parts { a.now ≡ parts_of a_key.now }
+    requires b_parts { b.now ≡ parts_of b_key.now }
+    ensures { result ≡ ranks_below a_key.now b_key.now }
+{
+    compare(a, a_key, b, b_key).is_lt()
 }
 
 #[tactic(auto, unfolding(crate::specs::Parts::parts_of, lt_terms::specs::Hashes::rank_cmp))]

@@ -31,6 +31,9 @@ fn ranks_by_suffix(rt: HostRuntime) {
     assert!(rt; Rank::of(b"abc", &abc) < Rank::of(b"", &empty));
     assert!(rt; Rank::of(b"", &empty) > Rank::of(b"abc", &abc));
     assert!(rt; Rank::of(b"abc", &abc) == Rank::of(b"abc", &abc));
+    assert!(rt; rank_less(&abc, b"abc", &empty, b""));
+    assert!(rt; !rank_less(&empty, b"", &abc, b"abc"));
+    assert!(rt; !rank_less(&abc, b"abc", &abc, b"abc"));
 }
 
 #[test]
