@@ -8,6 +8,8 @@ use Rattle.lt_tables.specs.Table.{blocks_from}
 abbrev pub InColumns : ℕ → ℕ → Type 0
 InColumns first k = (first ≤ k) × (k < first + 64)
 
--- where a device tells what it reads as, the first n blocks of the extent are those of the group of these filter pages
+-- where a device tells what it reads as, the first n blocks of the extent are those of the group of these
+-- filter pages
 pub record HasColumns (filters : List (List ℕ)) (first n : ℕ) (shown : Option Image) : Type 0 where
-  pub each : (image : Image) → shown ≡ Some image → (c : ℕ) → c < n → blocks_from image first c ≡ group_block filters c
+  pub each : (image : Image) → shown ≡ Some image → (c : ℕ) → c < n
+      → blocks_from image first c ≡ group_block filters c

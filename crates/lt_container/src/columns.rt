@@ -17,7 +17,8 @@ pub fn read_column<D: Device>(
 ) -> Result<(), Failed>
     requires within { first + 65 ≤ D.blocks device.old }
     requires column { column < 64 }
-    ensures content { OnOk result (ForSome (D.state device.old).shown (λ image. page.new ≡ block_at image (first + column))) }
+    ensures content { OnOk result (ForSome (D.state device.old).shown
+        (λ image. page.new ≡ block_at image (first + column))) }
     ensures state { D.state device.new ≡ D.state device.old }
     ensures size { D.blocks device.new ≡ D.blocks device.old }
     ensures count { CountsOne (D.reads device.old) (D.reads device.new) }

@@ -27,7 +27,8 @@ pub fn write_group<D: Device>(
     requires within { first + 65 ≤ D.blocks device.old }
     requires some { 1 ≤ length filters.now }
     requires few { length filters.now ≤ 64 }
-    ensures grouped { OnOk result ((image : Image) → (D.state device.new).shown ≡ Some image → IsGroup filters.now (blocks_from image first)) }
+    ensures grouped { OnOk result ((image : Image) → (D.state device.new).shown ≡ Some image
+        → IsGroup filters.now (blocks_from image first)) }
 
     // Whatever it answers, it touches no other block and syncs nothing.
     ensures confined { ConfinedTo (InColumns first) (D.state device.old) (D.state device.new) }
@@ -38,7 +39,8 @@ pub fn write_group<D: Device>(
     ensures size { D.blocks device.new ≡ D.blocks device.old }
     ensures count { D.reads device.new ≡ D.reads device.old }
     ensures later { D.faults device.old ≤ D.faults device.new }
-    ensures cause { IsErrOf result GroupFault.Device → Rose (D.faults device.old) (D.faults device.new) }
+    ensures cause { IsErrOf result GroupFault.Device
+        → Rose (D.faults device.old) (D.faults device.new) }
 {
     let mut page = Page::new(alloc)?;
     write_columns(device, first, filters, &mut page)?;
