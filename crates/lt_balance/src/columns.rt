@@ -36,7 +36,8 @@ impl Column {
     pub(crate) fn with(self, entry: &Entry) -> Column
         requires load { self.load + entry.now.cost < 2 ^ 64 }
         requires sent { self.sent + entry.now.cost < 2 ^ 64 }
-        ensures { (es : List Entry) → self ≡ column_of es entry.now.column → NoneAbove es entry.now.suffix → result ≡ column_of (es ++ entry.now ∷ []) entry.now.column }
+        ensures { (es : List Entry) → self ≡ column_of es entry.now.column → NoneAbove es entry.now.suffix
+            → result ≡ column_of (es ++ entry.now ∷ []) entry.now.column }
     {
         let cost = u64::from(entry.cost);
         if self.load > CAPACITY {

@@ -64,7 +64,8 @@ fn placed(
     columns: &[Column; COLUMNS],
     made: &[Sending],
 ) -> Result<Placement, NoMemory>
-    ensures { IfOk result (λ plans. (es : List Entry) → AreColumns es columns.now → plans ≡ map (plan_of es made.now) the_columns) }
+    ensures { IfOk result (λ plans. (es : List Entry) → AreColumns es columns.now
+        → plans ≡ map (plan_of es made.now) the_columns) }
 {
     let mut plans = Vec::with_capacity(alloc, COLUMNS)?;
     for column in 0..64u8 {

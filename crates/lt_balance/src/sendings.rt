@@ -1,6 +1,7 @@
 //! Where each column that sends finds a receiver.
 
-ghost use Rattle.std.specs.Prelude.{◌≡◌, ◌+◌, ◌-◌, ◌<◌, ◌≤◌, ℕ, List, [], length, All, MatchOption, insert, slice_index};
+ghost use Rattle.std.specs.Prelude.{◌≡◌, ◌+◌, ◌-◌, ◌<◌, ◌≤◌, ℕ, List, [], length, All, MatchOption, insert};
+ghost use Rattle.std.specs.Prelude.{slice_index};
 ghost use Rattle.std.specs.Option.{ForSome};
 ghost use Rattle.lt_tables.specs.declared.Entry.{Entry};
 ghost use Rattle.lt_tables.specs.declared.Sending.{Sending};
@@ -16,7 +17,8 @@ fn place_by_load(columns: &[Column; COLUMNS], order: &[u8], column: u8) -> usize
     requires column { column < 64 }
     requires order { All (λ c. c < 64) order.now }
     ensures within { result ≤ length order.now }
-    ensures place { (es : List Entry) → AreColumns es columns.now → insert order.now result column ≡ put_by_load es column order.now }
+    ensures place { (es : List Entry) → AreColumns es columns.now
+        → insert order.now result column ≡ put_by_load es column order.now }
 {
     let load = columns[column as usize].load;
     for (at, other) in order.iter().enumerate() {
@@ -69,7 +71,8 @@ fn roomier(rooms: &[u64; COLUMNS], column: u8, other: Option<u8>) -> u8
 
 /// The column with the most room among those that may receive, the first one at ties.
 fn receiver(columns: &[Column; COLUMNS], rooms: &[u64; COLUMNS]) -> Option<u8>
-    ensures best { (es : List Entry) (made : List Sending) → AreColumns es columns.now → AreRooms es made rooms.now → result ≡ best (room es made) (receivers es) }
+    ensures best { (es : List Entry) (made : List Sending) → AreColumns es columns.now → AreRooms es made rooms.now
+        → result ≡ best (room es made) (receivers es) }
     ensures column { ForSome result (λ c. c < 64) }
 {
     let mut found = None;

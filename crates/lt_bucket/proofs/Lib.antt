@@ -3,3 +3,4 @@ mod Lookups
 pub mod BucketPages
 pub mod Growing
 mod Finished
+mod FewLaws

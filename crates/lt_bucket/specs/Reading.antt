@@ -1,5 +1,6 @@
 -- How a page is read.
-use Rattle.std.specs.Prelude.{◌≡◌, ℕ, ◌+◌, ◌&&◌, List, [], Option, Some, None, nat_le, ◌==◌, if◌then◌else◌, unwrap_or, slice_index, slice_range, drop}
+use Rattle.std.specs.Prelude.{◌≡◌, ℕ, ◌+◌, ◌&&◌, List, [], Option, Some, None, nat_le, ◌==◌, if◌then◌else◌}
+use Rattle.std.specs.Prelude.{unwrap_or, slice_index, slice_range, drop}
 use Rattle.lt_terms.specs.Bytes.{u16_at, all_zero}
 use Rattle.lt_terms.specs.Items.{Item, items_of}
 use Rattle.lt_tables.specs.declared.Sends.{Sends}

@@ -8,7 +8,7 @@ mod view;
 
 pub use builder::{BucketBuilder, put_item};
 pub use lt_tables::Sends;
-pub use owned::{Item, Key};
+pub use owned::{Item, Key, push_all};
 pub use reading::Items;
 pub use view::{BucketView, Look};
 

@@ -1,10 +1,12 @@
 //! Items and keys that own their bytes.
 
-ghost use Rattle.std.specs.Prelude.{◌≡◌, IfOk, IsTrue};
+ghost use Rattle.std.specs.Prelude.{◌≡◌, ◌++◌, IfOk, OnOk, IsTrue};
+ghost use Rattle.std.specs.List.{list_all};
 ghost use Rattle.lt_terms.specs.Items.{is_key, is_valid};
 ghost use Rattle.lt_item.specs.Views.{item_of};
 ghost use Rattle.lt_item.specs.Parts.{parts_of};
 
+use crate::reading::Items;
 use lt_item::{ItemView, Kind, Parts, parts_of};
 use lt_page::NoMemory;
 use std::alloc::Global;
@@ -38,6 +40,15 @@ impl Item {
         requires { IsTrue (is_valid (item_of view.now)) }
         ensures { IfOk result (λ item. item ≡ item_of view.now) }
     {
+        Item::with_parts(alloc, view, &parts_of(view.key))
+    }
+
+    /// A copy of a valid item, where the parts of its key's hash are at hand.
+    pub fn with_parts(alloc: Global, view: &ItemView<'_>, parts: &Parts) -> Result<Item, NoMemory>
+        requires valid { IsTrue (is_valid (item_of view.now)) }
+        requires parts { parts.now ≡ parts_of view.now.key.now }
+        ensures { IfOk result (λ item. item ≡ item_of view.now) }
+    {
         let mut bytes = Vec::with_capacity(alloc, view.key.len() + view.value.len())?;
         bytes.extend_from_slice(view.key)?;
         bytes.extend_from_slice(view.value)?;
@@ -45,7 +56,7 @@ impl Item {
             kind: view.kind,
             key_len: view.key.len() as u8,
             bytes,
-            parts: parts_of(view.key),
+            parts: *parts,
         })
     }
 
@@ -105,4 +116,15 @@ impl Key {
     {
         &self.bytes
     }
+}
+
+/// Copies these items behind the others.
+pub fn push_all(alloc: Global, all: &mut Vec<Item>, items: Items<'_>) -> Result<(), NoMemory>
+    requires { IsTrue (list_all is_valid items) }
+    ensures { OnOk result (all.new.items ≡ all.old.items ++ items.entry) }
+{
+    for item in items {
+        all.push(Item::copy(alloc, &item)?)?;
+    }
+    Ok(())
 }

@@ -3,13 +3,12 @@
 ghost use Rattle.std.specs.Prelude.{◌≡◌, ◌+◌, ◌≤◌, IsTrue, length, drop};
 ghost use Rattle.std.specs.List.{list_all};
 ghost use Rattle.std.specs.Option.{option_copied};
-ghost use Rattle.lt_terms.specs.Bytes.{all_zero};
 ghost use Rattle.lt_terms.specs.Items.{is_valid, items_of};
 ghost use Rattle.lt_tables.specs.Bucket.{sends_of};
 ghost use Rattle.lt_bucket.specs.Reading.{items_area};
 
 use lt_item::{ItemView, read_item};
-use lt_page::Page;
+use lt_page::{Page, all_zero};
 use lt_tables::Sends;
 use std::marker::Model;
 
@@ -122,10 +121,4 @@ pub fn items_area(page: &Page) -> Option<&[u8]>
     } else {
         None
     }
-}
-
-fn all_zero(bytes: &[u8]) -> bool
-    ensures { result ≡ all_zero bytes.now }
-{
-    bytes.iter().all(|byte| *byte == 0)
 }

@@ -1,6 +1,6 @@
 //! A bucket as it is read from its page. Nothing is copied.
 
-ghost use Rattle.std.specs.Prelude.{◌≡◌, Some, IfSome, IsTrue, is_some, length};
+ghost use Rattle.std.specs.Prelude.{◌≡◌, ◌≤◌, Some, IfSome, IsTrue, is_some, length};
 ghost use Rattle.std.specs.List.{find, list_all};
 ghost use Rattle.std.specs.Option.{option_map};
 ghost use Rattle.lt_terms.specs.Bytes.{same_bytes};
@@ -80,6 +80,8 @@ impl<'a> BucketView<'a> {
     pub fn items(&self) -> Items<'a>
         ensures items { result ≡ items_on self.now }
         ensures valid { IsTrue (list_all is_valid result) }
+        // An item costs at least 5 of 4,080 bytes.
+        ensures few { length result ≤ 816 }
     {
         self.items.again()
     }

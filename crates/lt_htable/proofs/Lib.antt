@@ -4,3 +4,5 @@ pub mod EntryLaws
 pub mod FillLaws
 pub mod WriteLaws
 pub mod PlacedLaws
+mod CutLaws
+mod PartLaws

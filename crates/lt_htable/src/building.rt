@@ -14,8 +14,8 @@ ghost use Rattle.lt_htable.specs.Building.{HasBuckets, InExtent};
 use super::extent::block_in;
 use super::faults::BuildFault;
 use super::filling::fill_bucket;
+use super::filters::filters_of;
 use super::placing::placement_of;
-use super::summary::filters_of;
 use lt_balance::Placement;
 use lt_bloom::FilterPage;
 use lt_bucket::Item;
@@ -38,7 +38,8 @@ pub fn build<D: Device>(
     requires placed { IsTrue (has_placement (map entry_of items.now)) }
 
     ensures filters { IfOk result (λ filters. filters ≡ filter_block items.now) }
-    ensures placed { OnOk result ((image : Image) → (D.state device.new).shown ≡ Some image → IsPlaced items.now (blocks_from image first)) }
+    ensures placed { OnOk result ((image : Image) → (D.state device.new).shown ≡ Some image
+        → IsPlaced items.now (blocks_from image first)) }
 
     // Whatever it answers, it touches no other block and syncs nothing.
     ensures confined { ConfinedTo (InExtent first) (D.state device.old) (D.state device.new) }

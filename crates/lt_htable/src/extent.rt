@@ -32,7 +32,8 @@ pub(super) fn read_bucket<'p, D: Device>(
     ensures read { IfOk result (IsRead (D.state device.old).shown (first + column)) }
     ensures spelled { IfOk result (λ view. IsTrue (is_some (bucket_of view))) }
     ensures damaged_block { (b : ℕ) → IsErrOf result (LookFault.Damaged b) → b ≡ first + column }
-    ensures damaged { (b : ℕ) → IsErrOf result (LookFault.Damaged b) → IsNoBucket (D.state device.old).shown (first + column) }
+    ensures damaged { (b : ℕ) → IsErrOf result (LookFault.Damaged b)
+        → IsNoBucket (D.state device.old).shown (first + column) }
     ensures state { D.state device.new ≡ D.state device.old }
     ensures size { D.blocks device.new ≡ D.blocks device.old }
     ensures count { CountsOne (D.reads device.old) (D.reads device.new) }

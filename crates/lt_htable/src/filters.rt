@@ -1,15 +1,30 @@
-//! Reading the filters of a table.
+//! The filters of a table, made of its items or read.
 
 ghost use Rattle.std.specs.Prelude.{◌≡◌, ◌+◌, ◌≤◌, IfOk, IsErrOf};
 ghost use Rattle.lt_terms.specs.Causes.{CountsOne, Rose};
+ghost use Rattle.lt_tables.specs.Filter.{filter_block};
 ghost use Rattle.lt_htable.specs.Reading.{IsRead};
 
 use super::extent::block_in;
 use super::faults::BuildFault;
 use lt_bloom::FilterPage;
+use lt_bucket::Item;
 use lt_device::Device;
-use lt_page::Page;
+use lt_page::{NoMemory, Page};
 use std::alloc::Global;
+
+/// The filters of a table of these items.
+pub(super) fn filters_of(alloc: Global, items: &[Item]) -> Result<FilterPage, NoMemory>
+    ensures { IfOk result (λ filters. filters ≡ filter_block items.now) }
+{
+    let mut filters = FilterPage::new(alloc)?;
+    for item in items {
+        filters.add(item.parts().column, item.parts());
+    }
+    let len = filters.page().bytes().len();
+    prove!(len == Page::LEN);
+    Ok(filters)
+}
 
 /// The filters of the table whose extent begins at block `first`: one read, of block 64 of the extent.
 pub fn read_filters<D: Device>(

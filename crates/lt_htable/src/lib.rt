@@ -2,6 +2,7 @@
 #![tactic(auto)]
 
 mod building;
+mod cutting;
 mod extent;
 mod faults;
 mod filling;
@@ -12,6 +13,7 @@ mod scanning;
 mod summary;
 
 pub use building::build;
+pub use cutting::tables_of;
 pub use faults::{BuildFault, LookFault, ScanFault};
 pub use filters::read_filters;
 pub use lookup::look;

@@ -1,6 +1,7 @@
 //! Looking a key up in a table.
 
-ghost use Rattle.std.specs.Prelude.{◌≡◌, ℕ, ◌+◌, ◌<◌, ◌≤◌, List, Some, None, Ok, MatchResult, IfOk, IfErr, IsErr, IsErrOf};
+ghost use Rattle.std.specs.Prelude.{◌≡◌, ℕ, ◌+◌, ◌<◌, ◌≤◌, List, Some, None, Ok, MatchResult, IfOk, IfErr};
+ghost use Rattle.std.specs.Prelude.{IsErr, IsErrOf};
 ghost use Rattle.std.specs.Option.{ForSome, option_map};
 ghost use Rattle.lt_terms.specs.Bytes.{Image, block_at};
 ghost use Rattle.lt_terms.specs.Hashes.{home_column};
@@ -37,8 +38,10 @@ pub fn look<'p, D: Device>(
     ensures answer { AnswersLook (D.state device.old).shown first key.now result }
 
     // On the table of some items it is theirs, and no block is damaged.
-    ensures placed { (image : Image) (items : List terms.Item) → (D.state device.old).shown ≡ Some image → IsPlaced items (blocks_from image first)
-        → MatchResult result (λ found. option_map item_of found ≡ newest_of key.now items) (λ fault. fault ≡ LookFault.Device) }
+    ensures placed { (image : Image) (items : List terms.Item) → (D.state device.old).shown ≡ Some image
+        → IsPlaced items (blocks_from image first)
+        → MatchResult result (λ found. option_map item_of found ≡ newest_of key.now items)
+        (λ fault. fault ≡ LookFault.Device) }
 
     ensures cause { IsErrOf result LookFault.Device → Rose (D.faults device.old) (D.faults device.new) }
     ensures later { D.faults device.old ≤ D.faults device.new }
@@ -46,7 +49,9 @@ pub fn look<'p, D: Device>(
     ensures size { D.blocks device.new ≡ D.blocks device.old }
     ensures count { CountsAtMost 2 (D.reads device.old) (D.reads device.new) }
     // One read where the home bucket does not send the key.
-    ensures once { (image : Image) → (D.state device.old).shown ≡ Some image → target_of (look_on (block_at image (first + home_column key.now)) key.now) ≡ None → CountsAtMost 1 (D.reads device.old) (D.reads device.new) }
+    ensures once { (image : Image) → (D.state device.old).shown ≡ Some image
+        → target_of (look_on (block_at image (first + home_column key.now)) key.now) ≡ None
+        → CountsAtMost 1 (D.reads device.old) (D.reads device.new) }
 {
     let block = seek(device, first, key, parts, page)?;
     match BucketView::of(page) {
@@ -82,7 +87,9 @@ fn seek<D: Device>(
     ensures state { D.state device.new ≡ D.state device.old }
     ensures size { D.blocks device.new ≡ D.blocks device.old }
     ensures count { CountsAtMost 2 (D.reads device.old) (D.reads device.new) }
-    ensures once { (image : Image) → (D.state device.old).shown ≡ Some image → target_of (look_on (block_at image (first + home_column key.now)) key.now) ≡ None → CountsAtMost 1 (D.reads device.old) (D.reads device.new) }
+    ensures once { (image : Image) → (D.state device.old).shown ≡ Some image
+        → target_of (look_on (block_at image (first + home_column key.now)) key.now) ≡ None
+        → CountsAtMost 1 (D.reads device.old) (D.reads device.new) }
 {
     let home = block_in(device, first, parts.column);
     device.read(home, page)?;

@@ -1,32 +1,17 @@
-//! What a list of items asks of its table: its entries and its filters.
+//! What the placement and the cut ask of a list of items: its entries.
 
 ghost use Rattle.std.specs.Prelude.{◌≡◌, ◌<◌, ◌^◌, IfOk, IsTrue, length, map};
 ghost use Rattle.std.specs.List.{list_all};
 ghost use Rattle.lt_terms.specs.Items.{is_valid};
-ghost use Rattle.lt_tables.specs.Filter.{filter_block};
 ghost use Rattle.lt_tables.specs.Merge.{newest};
 ghost use Rattle.lt_tables.specs.Placement.{entry_of};
 ghost use Rattle.lt_balance.specs.Entries.{AreEntries};
 
 use lt_balance::Entry;
-use lt_bloom::FilterPage;
 use lt_bucket::Item;
 use lt_item::cost;
-use lt_page::{NoMemory, Page};
+use lt_page::NoMemory;
 use std::alloc::Global;
-
-/// The filters of a table of these items.
-pub(super) fn filters_of(alloc: Global, items: &[Item]) -> Result<FilterPage, NoMemory>
-    ensures { IfOk result (λ filters. filters ≡ filter_block items.now) }
-{
-    let mut filters = FilterPage::new(alloc)?;
-    for item in items {
-        filters.add(item.parts().column, item.parts());
-    }
-    let len = filters.page().bytes().len();
-    prove!(len == Page::LEN);
-    Ok(filters)
-}
 
 /// What the placement and the cut ask of these items: an entry for each, in their order.
 pub fn entries_of(alloc: Global, items: &[Item]) -> Result<Vec<Entry>, NoMemory>
@@ -34,7 +19,8 @@ pub fn entries_of(alloc: Global, items: &[Item]) -> Result<Vec<Entry>, NoMemory>
     ensures valid { IfOk result (λ _. IsTrue (list_all is_valid items.now)) }
 
     // Of items in rank order, each key once, they may be placed and cut.
-    ensures entries_are { IfOk result (λ entries. newest items.now ≡ items.now → length items.now < 2 ^ 32 → AreEntries entries.items) }
+    ensures entries_are { IfOk result (λ entries. newest items.now ≡ items.now → length items.now < 2 ^ 32
+        → AreEntries entries.items) }
 {
     let mut entries = Vec::with_capacity(alloc, items.len())?;
     for item in items {

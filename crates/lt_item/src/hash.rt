@@ -1,8 +1,8 @@
-//! The parts of a key's hash, and the order of ranks.
+//! The parts of a key's hash.
 
 ghost use Rattle.std.specs.Prelude.{◌≡◌, ◌+◌, ◌<◌, ◌≤◌};
 ghost use Rattle.lt_terms.specs.Bytes.{u16_at, u32_at};
-ghost use Rattle.lt_terms.specs.Hashes.{digit_of, position_of, ranks_below};
+ghost use Rattle.lt_terms.specs.Hashes.{digit_of, position_of};
 ghost use Rattle.lt_item.specs.Parts.{parts_of, IsInRange};
 
 use sha1::Sha1;
@@ -48,19 +48,6 @@ pub fn parts_of(key: &[u8]) -> Parts
             position(&hash, 5),
         ],
     }
-}
-
-/// Whether `a` stands before `b`: by suffix, then by hash, then by the bytes of the key.
-#[tactic(auto, unfolding(crate::specs::Parts::parts_of, lt_terms::specs::Hashes::rank_cmp))]
-pub fn rank_less(a: &Parts, a_key: &[u8], b: &Parts, b_key: &[u8]) -> bool
-    requires a_parts { a.now ≡ parts_of a_key.now }
-    requires b_parts { b.now ≡ parts_of b_key.now }
-    ensures { result ≡ ranks_below a_key.now b_key.now }
-{
-    a.suffix
-        .cmp(&b.suffix)
-        .then_with(|| a.hash.cmp(&b.hash).then_with(|| a_key.cmp(&b_key)))
-        .is_lt()
 }
 
 fn digit(hash: &[u8; 20], level: usize) -> u8

@@ -28,9 +28,9 @@ fn parts_of_known_hashes(rt: HostRuntime) {
 fn ranks_by_suffix(rt: HostRuntime) {
     let abc = parts_of(b"abc");
     let empty = parts_of(b"");
-    assert!(rt; rank_less(&abc, b"abc", &empty, b""));
-    assert!(rt; !rank_less(&empty, b"", &abc, b"abc"));
-    assert!(rt; !rank_less(&abc, b"abc", &abc, b"abc"));
+    assert!(rt; Rank::of(b"abc", &abc) < Rank::of(b"", &empty));
+    assert!(rt; Rank::of(b"", &empty) > Rank::of(b"abc", &abc));
+    assert!(rt; Rank::of(b"abc", &abc) == Rank::of(b"abc", &abc));
 }
 
 #[test]

@@ -1,5 +1,6 @@
 -- Items in one buffer, and their places in it, linked where their keys share 16 bits of their hash.
-use Rattle.std.specs.Prelude.{◌≡◌, ℕ, ◌+◌, ◌%◌, ◌<◌, ◌≤◌, List, [], ◌∷◌, ◌++◌, length, Some, ◌==◌, if◌then◌else◌, slice_index}
+use Rattle.std.specs.Prelude.{◌≡◌, ℕ, ◌+◌, ◌%◌, ◌<◌, ◌≤◌, List, [], ◌∷◌, ◌++◌, length, Some, ◌==◌}
+use Rattle.std.specs.Prelude.{if◌then◌else◌, slice_index}
 use Rattle.lt_terms.specs.Hashes.{key_suffix}
 use Rattle.lt_terms.specs.Items.{Item, total_cost, spellings, items_of}
 use Rattle.lt_mem.specs.declared.table.Place.{Place}

@@ -4,33 +4,13 @@ ghost use Rattle.std.specs.Prelude.{◌≡◌, IfOk, IsTrue};
 ghost use Rattle.std.specs.List.{list_all};
 ghost use Rattle.lt_terms.specs.Items.{is_valid};
 ghost use Rattle.lt_tables.specs.Merge.{newest, ranked};
-ghost use Rattle.lt_mem.specs.Ranking.{IsRankOf, ranked_entries, AreRanked};
+ghost use Rattle.lt_mem.specs.Ranking.{ranked_entries, AreRanked};
 
 use lt_bucket::{Item, Items};
-use lt_item::{ItemView, Parts, parts_of};
+use lt_item::{ItemView, Rank, parts_of};
 use lt_page::NoMemory;
 use std::alloc::Global;
 use std::collections::BTreeMap;
-
-/// A key with what its rank is compared by first. The order is that of ranks.
-#[derive(Clone, Copy, PartialEq, Eq, PartialOrd, Ord)]
-pub struct Rank<'a> {
-    suffix: u32,
-    hash: [u8; 20],
-    key: &'a [u8],
-}
-
-impl<'a> Rank<'a> {
-    ghost use Rattle.lt_mem.specs.Ranking.{IsRankOf};
-
-    #[tactic(auto, unfolding(lt_item::specs::Parts::parts_of))]
-    fn of(key: &'a [u8]) -> Rank<'a>
-        ensures { IsRankOf key.now result }
-    {
-        let Parts { suffix, hash, .. } = parts_of(key);
-        Rank { suffix, hash, key }
-    }
-}
 
 /// Copies of the newest items of each key, in rank order.
 pub fn newest_items(alloc: Global, items: Items<'_>) -> Result<Vec<Item>, NoMemory>
@@ -55,7 +35,7 @@ fn by_rank<'a>(
 {
     let mut newest = BTreeMap::new(alloc);
     for item in items {
-        newest.insert(Rank::of(item.key), item)?;
+        newest.insert(Rank::of(item.key, &parts_of(item.key)), item)?;
     }
     Ok(newest)
 }

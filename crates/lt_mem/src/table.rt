@@ -1,16 +1,18 @@
 //! Items in one buffer, found by a hash of their keys.
 
-ghost use Rattle.std.specs.Prelude.{◌≡◌, ◌+◌, ◌<◌, ◌≤◌, ◌∷◌, [], ◌++◌, IfOk, IfSome, IsTrue, vec_len, vec_capacity};
+ghost use Rattle.std.specs.Prelude.{◌≡◌, ℕ, ◌+◌, ◌<◌, ◌≤◌, ◌∷◌, [], ◌++◌, List, IfOk, IfSome, IsTrue};
+ghost use Rattle.std.specs.Prelude.{vec_len, vec_capacity};
 ghost use Rattle.std.specs.List.{list_all};
 ghost use Rattle.std.specs.Option.{option_map};
 ghost use Rattle.lt_terms.specs.Items.{is_key, is_valid, item_cost, spelling, total_cost, put_of, delete_of};
+ghost use Rattle.lt_item.specs.Parts.{parts_of};
 ghost use Rattle.lt_item.specs.Views.{item_of};
 ghost use Rattle.lt_tables.specs.Merge.{newest, newest_of};
 ghost use Rattle.lt_mem.specs.Index.{bucket_of, table_room};
 
 use crate::ranking::newest_items;
 use lt_bucket::{Item, Items};
-use lt_item::{ItemView, Kind, item_header, parts_of, read_item};
+use lt_item::{ItemView, Kind, Parts, item_header, parts_of, read_item};
 use lt_page::NoMemory;
 use std::alloc::Global;
 use std::marker::Model;
@@ -25,8 +27,8 @@ const BUCKETS: usize = 65536;
 
 /// Items in the order in which they were put in. All memory is taken by `new`.
 ///
-/// A look-up costs the SHA-1 of its key and a step for each linked item. `lt_bench memory` times puts and
-/// gets of 34,000 keys beside std's hash map: they took about three times as long.
+/// A look-up costs the SHA-1 of its key, where that is not at hand, and a step for each linked item.
+/// `lt_bench memory` times puts and gets of 34,000 keys beside std's hash map: they took about three times as long.
 ///
 /// An item is found by 16 bits of its key's hash. Items with the same 16 bits are linked, the
 /// newest first, and a look-up follows the links. The hash is no secret: keys can be chosen so
@@ -79,11 +81,14 @@ impl MemTable {
         requires room { total_cost self.old + item_cost (put_of key.now value.now) ≤ table_room }
         ensures { self.new ≡ self.old ++ put_of key.now value.now ∷ [] }
     {
-        self.add(&ItemView {
-            kind: Kind::Put,
-            key,
-            value,
-        });
+        self.add(
+            &ItemView {
+                kind: Kind::Put,
+                key,
+                value,
+            },
+            &parts_of(key),
+        );
     }
 
     /// Puts the delete of a key in.
@@ -92,19 +97,24 @@ impl MemTable {
         requires room { total_cost self.old + item_cost (delete_of key.now) ≤ table_room }
         ensures { self.new ≡ self.old ++ delete_of key.now ∷ [] }
     {
-        self.add(&ItemView {
-            kind: Kind::Delete,
-            key,
-            value: &[],
-        });
+        self.add(
+            &ItemView {
+                kind: Kind::Delete,
+                key,
+                value: &[],
+            },
+            &parts_of(key),
+        );
     }
 
-    fn add(&mut self, item: &ItemView<'_>)
+    /// Puts an item in, where the parts of its key's hash are at hand.
+    pub fn add(&mut self, item: &ItemView<'_>, parts: &Parts)
+        requires parts { parts.now ≡ parts_of item.now.key.now }
         requires valid { IsTrue (is_valid (item_of item.now)) }
         requires room { total_cost self.old + item_cost (item_of item.now) ≤ table_room }
         ensures { self.new ≡ self.old ++ item_of item.now ∷ [] }
     {
-        let bucket = bucket_of(item.key);
+        let bucket = bucket_of(parts);
         let place = Place {
             at: self.bytes.len() as u32,
             before: self.heads[bucket],
@@ -119,7 +129,16 @@ impl MemTable {
         ensures item { option_map item_of result ≡ newest_of key.now self.now }
         ensures valid { IfSome result (λ item. IsTrue (is_valid (item_of item))) }
     {
-        let mut number = self.heads[bucket_of(key)];
+        self.find(key, &parts_of(key))
+    }
+
+    /// The newest item of a key, as `get` answers it, where the parts of the key's hash are at hand.
+    pub fn find(&self, key: &[u8], parts: &Parts) -> Option<ItemView<'_>>
+        requires { parts.now ≡ parts_of key.now }
+        ensures item { option_map item_of result ≡ newest_of key.now self.now }
+        ensures valid { IfSome result (λ item. IsTrue (is_valid (item_of item))) }
+    {
+        let mut number = self.heads[bucket_of(parts)];
         while number > 0 {
             let place = self.places[number as usize - 1];
             let (item, _) = read_item(&self.bytes, place.at as usize)?;
@@ -162,11 +181,11 @@ impl MemTable {
     }
 }
 
-fn bucket_of(key: &[u8]) -> usize
-    ensures bucket { result ≡ bucket_of key.now }
+fn bucket_of(parts: &Parts) -> usize
+    ensures bucket { (key : List ℕ) → parts.now ≡ parts_of key → result ≡ bucket_of key }
     ensures below { result < 65536 }
 {
-    (parts_of(key).suffix % 65536) as usize
+    (parts.suffix % 65536) as usize
 }
 
 fn append_item(bytes: &mut Vec<u8>, item: &ItemView<'_>)

@@ -1,9 +1,10 @@
 //! A page of 4,096 bytes. All numbers in it are big-endian.
 
-ghost use Rattle.std.specs.Prelude.{◌≡◌, ◌+◌, ◌<◌, ◌≤◌, ◌↔◌, length, All, IfOk, IsTrue, slice_index, slice_set};
+ghost use Rattle.std.specs.Prelude.{◌≡◌, ◌+◌, ◌<◌, ◌≤◌, ◌↔◌, length, IfOk, IsTrue, slice_index, slice_set};
 ghost use Rattle.lt_terms.specs.Bytes.{IsBlock, zero_block, u16_at, u32_at, filled};
 
 use super::block::{Block, Vacant};
+use super::bytes::all_zero;
 use super::errors::NoMemory;
 use std::alloc::Global;
 use std::marker::Model;
@@ -120,12 +121,6 @@ impl Page {
     {
         all_zero(self.block.as_ref())
     }
-}
-
-fn all_zero(bytes: &[u8]) -> bool
-    ensures { IsTrue result ↔ All (λ b. b ≡ 0) bytes.now }
-{
-    bytes.iter().all(|byte| *byte == 0)
 }
 
 #[cfg(test)]

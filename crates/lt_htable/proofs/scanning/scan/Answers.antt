@@ -1,4 +1,4 @@
-use Rattle.std.proofs.Common.{◌≡◌, ℕ, ◌+◌, ◌++◌, List, refl, sym, ap, subst, ◌∙◌, arith}
+use Rattle.std.proofs.Common.{◌≡◌, ℕ, ◌+◌, ◌++◌, List, refl, sym, ap, subst, ◌∙◌, arith, length, length-append}
 use Rattle.lt_terms.specs.Items.{Item}
 use Rattle.lt_device.specs.State.{State}
 use Rattle.lt_htable.specs.Reading.{IsRead}
@@ -12,6 +12,7 @@ loop-column-init g c =
     let shown = (g.D.Device.state c.args.device.now).shown in
     record {
       scanned = subst (λ (items : List Item). IsScannedTo 0 shown c.args.first items) (sym c.new-items.ensures.items) (scanned-none shown c.args.first);
+      few = let none = ap length c.new-items.ensures.items in omega (arith, none);
       state = refl;
       size = refl;
       count = record { later = omega arith; at_most = omega arith };
@@ -28,6 +29,7 @@ loop-column-preserved g c =
     let items = c.in_ok-push_all.ensures ∙ ap (λ (more : List Item). c.loop-column.items.items ++ more) c.items.ensures.items in
     record {
       scanned = subst (λ (items : List Item). IsScannedTo (n + 1) shown c.args.first items) (sym items) (scanned-more n shown c.args.first c.loop-column.items.items page before.scanned read c.in_ok-bucket.ensures.spelled);
+      few = let size = ap length c.in_ok-push_all.ensures ∙ length-append c.loop-column.items.items c.items.result in omega (arith, size, before.few, c.items.ensures.few);
       state = c.read_bucket.ensures.state ∙ before.state;
       size = c.read_bucket.ensures.size ∙ before.size;
       count = record { later = omega (arith, before.count.later, c.read_bucket.ensures.count.later); at_most = omega (arith, before.count.later, before.count.at_most, c.read_bucket.ensures.count.later, c.read_bucket.ensures.count.at_most_one) };
@@ -46,3 +48,6 @@ pub returns-clause-placed : goal.returns-clause-placed
 returns-clause-placed g c = λ image items told placed.
     subst (λ (found : List Item). SameNewest found items × HasOnce found) (sym (scanned-told image (g.D.Device.state c.args.device.now).shown c.args.first c.loop-column.items.items told (returns-clause-items g c)))
     (scanned-placed image c.args.first items placed)
+
+pub returns-clause-few : goal.returns-clause-few
+returns-clause-few g c = omega (arith, c.loop-column.invariant.few, c.loop-column.auto.column-end)

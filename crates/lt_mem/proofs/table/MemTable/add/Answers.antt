@@ -46,11 +46,11 @@ invariant_of-self c =
     let at : c.len.result ≡ total_cost (items_inside c.self.inside) = c.len.ensures ∙ c.self.inside.bytes.ok.0 ∙ index-bytes _ _ _ _ c.self.invariant.index in
     let before : c.index.result.now ≡ last_in (bucket_of c.args.item.now.key.now) (items_inside c.self.inside) =
     head_is _ _ _ _ c.self.invariant.index.buckets c.self.invariant.index.heads_are c.bucket_of-bucket.ensures.below c.index.ensures
-    ∙ ap (λ b. last_in b (items_inside c.self.inside)) c.bucket_of-bucket.ensures.bucket in
+    ∙ ap (λ b. last_in b (items_inside c.self.inside)) (c.bucket_of-bucket.ensures.bucket _ c.requires.parts) in
     let number : c.len-2.result ≡ length c.self.inside.places.items + 1 = c.len-2.ensures ∙ c.push_reserved.ensures.len ∙ ap (λ n. n + 1) c.self.inside.places.ok.0 in
     let room : total_cost (items_inside c.self.inside) + item_cost (item_of c.args.item.now) ≤ 204092 = let same = ap total_cost c.self.view_is in let fits = c.requires.room in omega arith in
     record {
-      index = index-renewed _ _ _ _ (grown _ _ _ _ _ _ _ (item_of c.args.item.now) _ _ _ c.self.invariant.index c.requires.valid room c.bucket_of-bucket.ensures.bucket c.bucket_of-bucket.ensures.below
+      index = index-renewed _ _ _ _ (grown _ _ _ _ _ _ _ (item_of c.args.item.now) _ _ _ c.self.invariant.index c.requires.valid room (c.bucket_of-bucket.ensures.bucket _ c.requires.parts) c.bucket_of-bucket.ensures.below
           (place_is _ _ _ (item_of c.args.item.now) at before) number c.append_item.ensures.items c.push_reserved.ensures.items refl);
       room = let old = c.self.invariant.room in let more = c.append_item.ensures.capacity in omega arith;
       room_for_places = let old = c.self.invariant.room_for_places in let same = c.push_reserved.ensures.capacity in omega arith;
@@ -61,9 +61,9 @@ returns c =
     let at : c.len.result ≡ total_cost (items_inside c.self.inside) = c.len.ensures ∙ c.self.inside.bytes.ok.0 ∙ index-bytes _ _ _ _ c.self.invariant.index in
     let before : c.index.result.now ≡ last_in (bucket_of c.args.item.now.key.now) (items_inside c.self.inside) =
     head_is _ _ _ _ c.self.invariant.index.buckets c.self.invariant.index.heads_are c.bucket_of-bucket.ensures.below c.index.ensures
-    ∙ ap (λ b. last_in b (items_inside c.self.inside)) c.bucket_of-bucket.ensures.bucket in
+    ∙ ap (λ b. last_in b (items_inside c.self.inside)) (c.bucket_of-bucket.ensures.bucket _ c.requires.parts) in
     let number : c.len-2.result ≡ length c.self.inside.places.items + 1 = c.len-2.ensures ∙ c.push_reserved.ensures.len ∙ ap (λ n. n + 1) c.self.inside.places.ok.0 in
     let room : total_cost (items_inside c.self.inside) + item_cost (item_of c.args.item.now) ≤ 204092 = let same = ap total_cost c.self.view_is in let fits = c.requires.room in omega arith in
-    index-itself _ _ _ _ (grown _ _ _ _ _ _ _ (item_of c.args.item.now) _ _ _ c.self.invariant.index c.requires.valid room c.bucket_of-bucket.ensures.bucket c.bucket_of-bucket.ensures.below
+    index-itself _ _ _ _ (grown _ _ _ _ _ _ _ (item_of c.args.item.now) _ _ _ c.self.invariant.index c.requires.valid room (c.bucket_of-bucket.ensures.bucket _ c.requires.parts) c.bucket_of-bucket.ensures.below
     (place_is _ _ _ (item_of c.args.item.now) at before) number c.append_item.ensures.items c.push_reserved.ensures.items refl)
     ∙ ap (λ items. items ++ item_of c.args.item.now ∷ []) c.self.view_is

@@ -1,6 +1,6 @@
 use Rattle.lt_mem.specs.Inside.{items_inside}
 use Rattle.lt_mem.proofs.Walk.{IsAt}
-use Rattle.lt_mem.proofs.table.MemTable.get.Given as goal
+use Rattle.lt_mem.proofs.table.MemTable.find.Given as goal
 
 abbrev pub invariant-loop-number : goal.invariant-loop-number
 invariant-loop-number l = IsAt l.key (items_inside l.self-inside) l.number

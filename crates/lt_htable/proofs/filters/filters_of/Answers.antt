@@ -6,7 +6,7 @@ use Rattle.lt_tables.specs.Filter.{HasFilters}
 use Rattle.lt_tables.proofs.FilterLaws.{HasFilters-nil, HasFilters-block}
 use Rattle.lt_htable.proofs.SoughtLaws.{column-small}
 use Rattle.lt_htable.proofs.FillLaws.{parts-in_range, filters-more}
-use Rattle.lt_htable.proofs.summary.filters_of.Goals as goal
+use Rattle.lt_htable.proofs.filters.filters_of.Goals as goal
 
 pub loop-item-init : goal.loop-item-init
 loop-item-init c = subst (λ (page : List ℕ). HasFilters [] page) (sym c.in_ok-filters.ensures) HasFilters-nil

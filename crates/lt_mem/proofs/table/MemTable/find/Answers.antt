@@ -6,11 +6,11 @@ use Rattle.lt_tables.specs.Merge.{newest_of}
 use Rattle.lt_mem.specs.Inside.{items_inside}
 use Rattle.lt_mem.proofs.IndexLaws.{index-count}
 use Rattle.lt_mem.proofs.Walk.{has_place, head_begins, found, goes_on, same_item, no_item, numbered}
-use Rattle.lt_mem.proofs.table.MemTable.get.Goals as goal
+use Rattle.lt_mem.proofs.table.MemTable.find.Goals as goal
 
 pub loop-number-init : goal.loop-number-init
 loop-number-init c =
-    head_begins _ _ _ _ _ c.self.invariant.index.buckets c.self.invariant.index.heads_are c.bucket_of.ensures.bucket c.bucket_of.ensures.below c.index-number.ensures
+    head_begins _ _ _ _ _ c.self.invariant.index.buckets c.self.invariant.index.heads_are (c.bucket_of.ensures.bucket _ c.requires) c.bucket_of.ensures.below c.index-number.ensures
 
 pub index-place-requires : goal.index-place-requires
 index-place-requires c =

@@ -1,7 +1,7 @@
 use Rattle.std.proofs.Common.{◌≡◌, ◌++◌, true}
 use Rattle.std.specs.List.{list_all}
 use Rattle.lt_terms.specs.Items.{is_valid}
-use Rattle.lt_htable.proofs.scanning.push_all.Given as goal
+use Rattle.lt_bucket.proofs.owned.push_all.Given as goal
 
 -- all that were there, and those that are left
 abbrev pub invariant-loop-item : goal.invariant-loop-item
