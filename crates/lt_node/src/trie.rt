@@ -50,6 +50,14 @@ impl Trie {
         })
     }
 
+    /// How many levels the trie has, 2 to 5.
+    pub fn levels(&self) -> u8
+        ensures count { result ≡ self.now.levels }
+        ensures trie { IsView self.now }
+    {
+        self.levels
+    }
+
     /// A node's pile, the oldest table first. Empty where the trie does not have the node.
     #[tactic(auto, unfolding(lt_format::specs::Trie::node_at))]
     pub fn pile(&self, node: NodeId) -> &[u32]
