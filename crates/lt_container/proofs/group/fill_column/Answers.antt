@@ -1,6 +1,5 @@
 use Rattle.std.proofs.Common.{◌≡◌, ℕ, ◌+◌, ◌*◌, sym, ap, ◌∙◌, List, ◌++◌, length, take, arith, length-append}
 use Rattle.lt_terms.specs.Bytes.{block_of, filled}
-use Rattle.lt_tables.specs.Group.{filter_in}
 use Rattle.lt_container.proofs.GroupLaws.{joined, joined-more, padded-more}
 use Rattle.lt_container.proofs.group.fill_column.Goals as goal
 
