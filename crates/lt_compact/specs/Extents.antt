@@ -1,0 +1,23 @@
+-- Extents that are taken, and the filters of the tables that a job built.
+use Rattle.std.specs.Prelude.{◌≡◌, ℕ, ◌<◌, Bool, false, List, [], map, length, IsTrue, if◌then◌else◌}
+use Rattle.std.specs.List.{flat_map}
+use Rattle.lt_terms.specs.Numbers.{is_in}
+use Rattle.lt_alloc.specs.Extents.{is_free}
+use Rattle.lt_tables.specs.Filter.{filter_block}
+use Rattle.lt_format.specs.Trie.{is_last_level, child}
+use Rattle.lt_image.specs.Shares.{Share}
+use Rattle.lt_compact.specs.Jobs.{JobView, Stage, scanning, planned, filling}
+
+-- these extents are taken
+pub record AllTaken (taken : List Bool) (numbers : List ℕ) : Type 0 where
+  pub below : (x : ℕ) → IsTrue (is_in x numbers) → x < length taken
+  pub each : (x : ℕ) → IsTrue (is_in x numbers) → is_free taken x ≡ false
+
+-- the filters of the tables that a job built for inner children, in order; none of a job whose tables are
+-- of the last level
+abbrev pub filters_in : JobView → Stage → List (List ℕ)
+filters_in j (scanning n kept loose) = []
+filters_in j (planned shares) = []
+filters_in j (filling shares numbers filled) = if is_last_level j.levels j.node then []
+    else if is_last_level j.levels (child j.node 0) then []
+    else flat_map (λ (s : Share). map filter_block s.parts) shares

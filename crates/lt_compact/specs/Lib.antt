@@ -1,0 +1,4 @@
+pub mod Plans
+pub mod Jobs
+pub mod Extents
+pub mod Inside

@@ -1,0 +1,119 @@
+//! What is true of a job in flight outlasts what a store does beside it, and its commit keeps what an image
+//! stands for.
+
+ghost use Rattle.std.specs.Prelude.{◌≡◌, ℕ, ◌+◌, ◌<◌, ◌≤◌, ◌||◌, ◌++◌, Bool, List, Ok, Some};
+ghost use Rattle.std.specs.Prelude.{length, take, slice_index, slice_index_or, IsTrue};
+ghost use Rattle.lt_terms.specs.Items.{Item};
+ghost use Rattle.lt_terms.specs.Bytes.{Image};
+ghost use Rattle.lt_language.specs.Machine.{State};
+ghost use Rattle.lt_format.specs.declared.header.Header.{Header};
+ghost use Rattle.lt_format.specs.declared.node_id.NodeId.{NodeId};
+ghost use Rattle.lt_tables.specs.Merge.{newest};
+ghost use Rattle.lt_format.specs.Changes.{Change, are_new, fits, flush, new_extents, after_change};
+ghost use Rattle.lt_format.specs.Naming.{Named, may_commit, after_commit};
+ghost use Rattle.lt_format.specs.Trie.{Trie, IsTrie, named, node_at};
+ghost use Rattle.lt_image.specs.After.{SameExtents};
+ghost use Rattle.lt_image.specs.Needs.{is_slack, waits};
+ghost use Rattle.lt_image.specs.Shares.{Share, needed, shares_of};
+ghost use Rattle.lt_image.specs.Versions.{free_extents, items_at};
+ghost use Rattle.lt_image.specs.Opening.{Opened, open_image};
+ghost use Rattle.lt_image.specs.Standing.{Stands};
+ghost use Rattle.lt_compact.specs.Jobs.{JobView, IsShaped, KeepsJob, KeepsStage, change_of, is_loose, planned};
+ghost use Rattle.lt_compact.specs.Jobs.{filling, is_told_slack, scanning, taken_in};
+ghost use Rattle.lt_compact.specs.Plans.{Content, Holds, all_contents, are_shared, extents_for};
+
+/// The change of a ready job fits the trie, whatever the device tells, and newly names what the job reserved.
+pub fn jobs_fit()
+    ensures fits { (levels extents : ℕ) (trie : Trie) (j : JobView) (change : Change)
+        → IsTrie levels extents trie → IsShaped levels trie j → change_of j ≡ Some change
+        → IsTrue (are_new 65536 trie (taken_in j.stage)) → IsTrue (fits levels trie change) }
+    ensures names { (levels extents : ℕ) (trie : Trie) (j : JobView) (change : Change)
+        → IsTrie levels extents trie → IsShaped levels trie j → change_of j ≡ Some change
+        → IsTrue (are_new 65536 trie (taken_in j.stage)) → new_extents change ≡ taken_in j.stage }
+{}
+
+/// The commit of a ready job: where the extents that were named and those of the job are as before, and the
+/// log too, the new image stands for the state that the old one stood for.
+pub fn jobs_commit()
+    ensures { (old new : Image) (o p : Opened) (j : JobView) (change : Change)
+        (header : Header) (s : State)
+        → open_image old ≡ Ok o → open_image new ≡ Ok p → Stands old s
+        → p.named.geometry ≡ o.named.geometry
+        → change_of j ≡ Some change
+        → p.named.manifest ≡ after_commit o.named.manifest change header
+        → IsTrue (may_commit o.named.geometry.levels o.named.manifest change header)
+        → p.groups ≡ o.groups
+        → SameExtents o.named.geometry old new (named o.named.manifest.trie)
+        → SameExtents o.named.geometry old new (taken_in j.stage)
+        → IsShaped o.named.geometry.levels o.named.manifest.trie j → KeepsJob o.named old j
+        → Stands new s }
+{}
+
+/// A job in flight outlasts what leaves the extents that are named, and its own: a commit of the log, and a
+/// flush, which only puts tables behind those of the root.
+pub fn jobs_outlast()
+    ensures shaped { (levels : ℕ) (trie : Trie) (tables : List ℕ) (j : JobView) → 2 ≤ levels
+        → IsShaped levels trie j → IsShaped levels (after_change trie (flush tables)) j }
+    ensures same { (m : Named) (old new : Image) (j : JobView)
+        → SameExtents m.geometry old new (named m.manifest.trie)
+        → SameExtents m.geometry old new (taken_in j.stage)
+        → IsShaped m.geometry.levels m.manifest.trie j → KeepsJob m old j → KeepsJob m new j }
+    ensures flushed { (m n : Named) (old new : Image) (tables : List ℕ) (j : JobView)
+        → 2 ≤ m.geometry.levels → n.geometry ≡ m.geometry
+        → n.manifest.trie ≡ after_change m.manifest.trie (flush tables)
+        → SameExtents m.geometry old new (named m.manifest.trie)
+        → SameExtents m.geometry old new (taken_in j.stage)
+        → IsShaped m.geometry.levels m.manifest.trie j → KeepsJob m old j → KeepsJob n new j }
+{}
+
+/// What is kept of the tables that were scanned stays true with one table more, and is enough to plan by; the
+/// shares of any items have the shape that the trie wants; and with one extent more that holds what it is to
+/// hold, what was filled stays.
+pub fn steps_keep()
+    ensures scanned { (m : Named) (image : Image) (id : NodeId) (sources : List ℕ) (n : ℕ)
+        (kept items : List Item) (loose : Bool)
+        → n < length sources → items ≡ items_at m.geometry image (slice_index sources n)
+        → KeepsStage m image id sources (scanning n kept loose)
+        → let more = kept ++ items in
+        KeepsStage m image id sources (scanning (n + 1) (newest more) (loose || is_loose more)) }
+    ensures planned { (m : Named) (image : Image) (id : NodeId) (sources : List ℕ) (n : ℕ)
+        (kept : List Item) (loose : Bool)
+        → n ≡ length sources → KeepsStage m image id sources (scanning n kept loose)
+        → KeepsStage m image id sources (planned (shares_of m.geometry.levels m.manifest.trie id kept)) }
+    ensures shaped { (levels : ℕ) (trie : Trie) (id : NodeId) (items : List Item)
+        → IsTrue (are_shared levels trie id (shares_of levels trie id items)) }
+    ensures filled { (m : Named) (old new : Image) (id : NodeId) (sources : List ℕ) (shares : List Share)
+        (numbers : List ℕ) (k : ℕ) (c : Content)
+        → IsTrue (are_shared m.geometry.levels m.manifest.trie id shares)
+        → SameExtents m.geometry old new (named m.manifest.trie)
+        → SameExtents m.geometry old new sources → SameExtents m.geometry old new (take k numbers)
+        → k < length numbers → k < length (all_contents m.geometry.levels shares numbers)
+        → Holds m.geometry new (slice_index numbers k)
+        (slice_index_or (all_contents m.geometry.levels shares numbers) k c)
+        → KeepsStage m old id sources (filling shares numbers k)
+        → KeepsStage m new id sources (filling shares numbers (k + 1)) }
+{}
+
+/// What was scanned of a node's whole pile tells of the node: where more extents are needed than are free it
+/// waits, when the job plans and when its extents are to be taken; and it has slack as the plan tells.
+pub fn plans_tell()
+    ensures waiting { (m : Named) (image : Image) (j : JobView) (n : ℕ) (kept : List Item)
+        (loose : Bool)
+        → IsShaped m.geometry.levels m.manifest.trie j
+        → j.stage ≡ scanning n kept loose → n ≡ length j.sources
+        → length j.sources ≡ length (node_at m.manifest.trie j.node).tables → KeepsJob m image j
+        → free_extents m < needed m.geometry.levels m.manifest.trie j.node kept
+        → IsTrue (waits m image (j.node, node_at m.manifest.trie j.node)) }
+    ensures slack { (m : Named) (image : Image) (j : JobView) (n : ℕ) (kept : List Item)
+        (loose : Bool)
+        → IsShaped m.geometry.levels m.manifest.trie j
+        → j.stage ≡ scanning n kept loose → n ≡ length j.sources
+        → length j.sources ≡ length (node_at m.manifest.trie j.node).tables → KeepsJob m image j
+        → is_slack m image (j.node, node_at m.manifest.trie j.node)
+        ≡ is_told_slack m.geometry.levels m.manifest.trie j.node kept loose }
+    ensures short { (m : Named) (image : Image) (j : JobView) (shares : List Share)
+        → IsShaped m.geometry.levels m.manifest.trie j → j.stage ≡ planned shares
+        → length j.sources ≡ length (node_at m.manifest.trie j.node).tables → KeepsJob m image j
+        → free_extents m < extents_for m.geometry.levels shares
+        → IsTrue (waits m image (j.node, node_at m.manifest.trie j.node)) }
+{}

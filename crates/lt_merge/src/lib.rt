@@ -1,0 +1,14 @@
+//! Lists of items: the newest of each key, and their parts by digit and kind.
+#![tactic(auto)]
+
+mod dealing;
+mod merging;
+mod places;
+mod puts;
+
+pub use dealing::deal_by;
+pub use merging::newest;
+pub use puts::without_deletes;
+
+#[cfg(test)]
+mod tests;
