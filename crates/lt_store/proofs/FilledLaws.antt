@@ -57,5 +57,5 @@ filled v d s0 s1 s2 log numbers g before built filters k free log_is clearing su
       ready = λ there parts there_is empty tables are.
           prepared x d numbers parts filters s1 s2 o1 o2 fits.area_small inside (empty-there v s1 fits empty)
           (subst (λ ks. (a b : Image) → s1.shown ≡ Some a → s2.shown ≡ Some b → AllZip (HasTable v.named.geometry ks b) numbers parts) (sym there_is)
-              (subst (λ h. (a b : Image) → s1.shown ≡ Some a → s2.shown ≡ Some b → AllZip (HasTable h there b) numbers parts) g_is tables)) are;
+          (subst (λ h. (a b : Image) → s1.shown ≡ Some a → s2.shown ≡ Some b → AllZip (HasTable h there b) numbers parts) g_is tables)) are;
     }

@@ -3,7 +3,6 @@ pub mod AnswerLaws
 pub mod BuildLaws
 pub mod CommitLaws
 pub mod CountLaws
-pub mod CutLaws
 pub mod FilledLaws
 pub mod FilterLaws
 pub mod FlushLaws
@@ -16,9 +15,9 @@ pub mod LookLaws
 pub mod MakingLaws
 pub mod MemoryLaws
 pub mod MomentLaws
+pub mod NewestLaws
 pub mod NumberLaws
 pub mod OpenLaws
-pub mod PartLaws
 pub mod PileLaws
 pub mod PrepareLaws
 pub mod ReserveLaws

@@ -147,10 +147,10 @@ flushed-kept n m log memory taken now filters writes count numbers header k r so
       taken_named = record {
         len = same ∙ size ∙ sym head_extents;
         free = λ x small.
-          let within : x < n.manifest.header.extents = omega (arith, small, head_extents) in
-          let there : is_in x (named m.manifest.trie) ≡ (is_in x (named n.manifest.trie) || is_in x numbers) = ap (λ (t : Trie). is_in x (named t)) trie ∙ named-flush n.manifest.trie numbers x k.manifest.trie.rising some in
-          r.others_stay x ∙ ap (λ b. b && not (is_in x r.numbers)) (k.taken_named.free x within) ∙ both (is_in x (named n.manifest.trie)) (is_in x r.numbers)
-          ∙ ap (λ b. not (is_in x (named n.manifest.trie) || b)) (ap (is_in x) (sym r.appended)) ∙ ap not (sym there);
+            let within : x < n.manifest.header.extents = omega (arith, small, head_extents) in
+            let there : is_in x (named m.manifest.trie) ≡ (is_in x (named n.manifest.trie) || is_in x numbers) = ap (λ (t : Trie). is_in x (named t)) trie ∙ named-flush n.manifest.trie numbers x k.manifest.trie.rising some in
+            r.others_stay x ∙ ap (λ b. b && not (is_in x r.numbers)) (k.taken_named.free x within) ∙ both (is_in x (named n.manifest.trie)) (is_in x r.numbers)
+            ∙ ap (λ b. not (is_in x (named n.manifest.trie) || b)) (ap (is_in x) (sym r.appended)) ∙ ap not (sym there);
       };
       filters_len = filled ∙ sym head_extents;
     }

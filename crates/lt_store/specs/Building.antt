@@ -2,18 +2,11 @@
 use Rattle.std.specs.Prelude.{◌≡◌, ℕ, ◌+◌, ◌<◌, ◌≤◌, List, Option, Some, None, slice_index_or, IsTrue}
 use Rattle.lt_terms.specs.Bytes.{Image}
 use Rattle.lt_terms.specs.Items.{Item}
-use Rattle.lt_tables.specs.Cut.{IsTable}
 use Rattle.lt_terms.specs.Numbers.{is_in}
-use Rattle.lt_tables.specs.Merge.{newest}
 use Rattle.lt_tables.specs.Table.{IsPlaced}
 use Rattle.lt_format.specs.declared.geometry.Geometry.{Geometry}
 use Rattle.lt_format.specs.Layout.{extent_block, extent_blocks}
 use Rattle.lt_image.specs.Versions.{extent_in}
-
--- items of one table, in rank order, each key once
-pub record IsPart (items : List Item) : Type 0 where
-  pub table : IsTable items
-  pub ranked : newest items ≡ items
 
 -- the block is one of these extents'
 pub record InExtents (g : Geometry) (numbers : List ℕ) (n : ℕ) : Type 0 where

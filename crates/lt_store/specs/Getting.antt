@@ -117,7 +117,7 @@ abbrev pub seen_in : Image → ℕ → List ℕ → Result (Option Item) LookFau
 seen_in image first key =
     let home = look_on (block_at image (first + home_column key)) key in
     at_home first (home_column key) home
-        (option_and_then (λ column. look_on (block_at image (first + column)) key) (target_of home))
+    (option_and_then (λ column. look_on (block_at image (first + column)) key) (target_of home))
 
 -- the filter of the table in an extent covers the key, as the image has it
 abbrev pub is_covered : Geometry → Image → List ℕ → ℕ → Bool

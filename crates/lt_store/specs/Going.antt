@@ -24,5 +24,9 @@ pub record Goes (v : StoreView) (accepted : List Item) (w : StoreView) (durable 
 
 -- the store with one write more, which is pending
 abbrev pub appended : StoreView → Item → StoreView
-appended v item = record v { log = record v.log { pending = v.log.pending ++ item ∷ [] }; memory =
-    v.memory ++ item ∷ []; writes = v.writes + 1 }
+appended v item = record v {
+  log = record v.log { pending = v.log.pending ++ item ∷ [] };
+  memory =
+      v.memory ++ item ∷ [];
+  writes = v.writes + 1;
+}

@@ -45,7 +45,7 @@ pub record Writes {T : Type 0} (D : Ghosts T) (item : Item) (v w : StoreView) (a
   pub full_images : (needed free : ℕ) → answered (Full needed free) → (durable : State)
       → IsOpen v durable (D.state old)
       → ((left : Image) → MayLeave (D.state new) left → IsFullImage left needed free)
-          × (v.named.manifest.header.extents < 2 * v.writes)
+      × (v.named.manifest.header.extents < 2 * v.writes)
 
 -- What holds of a call only while no table lies below the root, since a write never moves tables down then;
 -- `written` is the item that it writes, if any. A flush adds tables to the root and changes nothing else of
@@ -57,7 +57,7 @@ pub record WhileRooted {T : Type 0} (D : Ghosts T) (written : Option Item) (v w 
   pub flushed : IfSome written (λ item. is_due (readied v (item_cost item)) ≡ true → answered Ok
       → (durable : State) → IsOpen v durable (D.state old)
       → (flushed : StoreView) × IsFlushed (readied v (item_cost item)) flushed (D.state new)
-          × (w ≡ appended flushed item))
+      × (w ≡ appended flushed item))
   pub full_same : IfSome written (λ item. (needed free : ℕ) → answered (Full needed free)
       → w ≡ readied v (item_cost item))
   pub full_quiet : (needed free : ℕ) → answered (Full needed free) → v.log.pending ≡ [] → new ≡ old

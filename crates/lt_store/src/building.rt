@@ -10,7 +10,8 @@ ghost use Rattle.lt_device.specs.Moments.{ConfinedTo, ShowsSameOutside};
 ghost use Rattle.lt_format.specs.Layout.{blocks_needed};
 ghost use Rattle.lt_format.specs.Trie.{all_distinct, all_below};
 ghost use Rattle.lt_terms.specs.Numbers.{is_in};
-ghost use Rattle.lt_store.specs.Building.{IsPart, InExtents, HasTable};
+ghost use Rattle.lt_htable.specs.Cutting.{IsPart};
+ghost use Rattle.lt_store.specs.Building.{InExtents, HasTable};
 
 use lt_bloom::FilterPage;
 use lt_bucket::Item;

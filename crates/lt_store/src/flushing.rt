@@ -15,7 +15,7 @@ ghost use Rattle.lt_format.specs.Changes.{flush};
 ghost use Rattle.lt_format.specs.Naming.{after_commit};
 ghost use Rattle.lt_format.specs.Trie.{all_distinct};
 ghost use Rattle.lt_manifest.specs.Opened as opened;
-ghost use Rattle.lt_store.specs.Building.{IsPart};
+ghost use Rattle.lt_htable.specs.Cutting.{IsPart};
 ghost use Rattle.lt_store.specs.Flushing.{HasCommitted, StaysDown};
 ghost use Rattle.lt_store.specs.Flushing.{AreFree, HasTables, IsFlushed, IsPrepared, IsShort};
 ghost use Rattle.lt_store.specs.Flushing.{SomeKept, Stays, flush_header, flushed};
@@ -28,12 +28,12 @@ ghost use Rattle.lt_store.specs.Promise.{IsRooted};
 ghost use Rattle.lt_store.specs.View.{view_of};
 
 use crate::building::build_tables;
-use crate::cutting::tables_of;
 use crate::faults::FlushFault;
 use crate::store::Store;
 use lt_alloc::{Extents, Short};
 use lt_bucket::Item;
 use lt_device::Device;
+use lt_htable::tables_of;
 use lt_node::{Change, Header, Numbers};
 use std::alloc::Global;
 

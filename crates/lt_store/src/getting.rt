@@ -93,7 +93,8 @@ impl Store {
             (root_pile (view_of self.old).named.manifest.trie) j) (D.reads device.old)
             (D.reads device.new) }
     {
-        let version = match self.memory.get(key) {
+        let parts = parts_of(key);
+        let version = match self.memory.find(key, &parts) {
             Some(item) => Some(show(&item, out)),
             None => {
                 let tables = self.manifest.trie().pile(ROOT);
@@ -103,6 +104,7 @@ impl Store {
                     tables,
                     &self.filters,
                     key,
+                    &parts,
                     &mut self.page,
                     out,
                 )?
@@ -120,11 +122,14 @@ fn search<D: Device>(
     tables: &[u32],
     filters: &[Option<FilterPage>],
     key: &[u8],
+    parts: &Parts,
     page: &mut Page,
     out: &mut Page,
 ) -> Result<Option<Version>, LookFault>
-    requires { AllByRecursion (λ x. extent_block geometry.now x + 65 ≤ D.blocks device.old)
+    requires within { AllByRecursion (λ x. extent_block geometry.now x + 65 ≤ D.blocks device.old)
         tables.now }
+    requires parts { parts.now ≡ parts_of key.now }
+    requires range { IsInRange parts.now }
     ensures answer { (image : Image) → (D.state device.old).shown ≡ Some image
         → AllByRecursion (IsReadable geometry.now filters.now image key.now) tables.now
         → IsAnswer (newest_of key.now (pile_items geometry.now image tables.now)) result out.old
@@ -146,12 +151,11 @@ fn search<D: Device>(
         → CountsAtMost (2 * asked_from filters.now key.now tables.now j) (D.reads device.old)
         (D.reads device.new) }
 {
-    let parts = parts_of(key);
     for i in (0..tables.len()).rev() {
         let extent = tables[i];
-        if may_hold(filters, extent, key, &parts) {
+        if may_hold(filters, extent, key, parts) {
             let first = geometry.extent(extent);
-            let version = look_into(device, first, key, &parts, page, out)?;
+            let version = look_into(device, first, key, parts, page, out)?;
             if version.is_some() {
                 return Ok(version);
             }

@@ -5,7 +5,6 @@ mod acting;
 mod building;
 mod committing;
 mod counts;
-mod cutting;
 mod faults;
 mod flushing;
 mod getting;

@@ -47,7 +47,7 @@ pub fn init<D: Device>(
 
     ensures small { D.blocks device.old < blocks_needed (geometry_of levels slots) extents
         → IsErrOf result (InitFault.TooSmall (blocks_needed (geometry_of levels slots) extents)
-            (D.blocks device.old)) × (device.new ≡ device.old) }
+        (D.blocks device.old)) × (device.new ≡ device.old) }
     ensures too_small { (needed has : ℕ) → IsErrOf result (InitFault.TooSmall needed has)
         → D.blocks device.old < blocks_needed (geometry_of levels slots) extents }
     ensures occupied { IsErrOf result InitFault.Occupied → IsOccupied (D.state device.old) }

@@ -32,7 +32,6 @@ use lt_bucket::Item;
 use lt_device::Device;
 use lt_format::NodeId;
 use lt_htable::{BuildFault, read_filters};
-use lt_item::{ItemView, Kind};
 use lt_manifest::{Manifest, OpenFault, read_geometry};
 use lt_mem::MemTable;
 use lt_page::{NoMemory, Page};
@@ -120,16 +119,12 @@ impl Store {
 }
 
 /// Reads the manifest, and the geometry with it.
-fn read_manifest<D: Device>(
-    alloc: Global,
-    device: &mut D,
-) -> Result<Manifest, OpenFault>
+fn read_manifest<D: Device>(alloc: Global, device: &mut D) -> Result<Manifest, OpenFault>
     ensures valid { IfOk result (λ manifest. IsTrue (is_geometry manifest.geometry)) }
     ensures stands { IfOk result
         (λ manifest. IsManifest manifest.geometry (D.blocks device.old) manifest.manifest) }
     ensures read { IfOk result
-        (λ manifest. ForSome (D.state device.old).shown (λ image. manifest_of image ≡ Ok manifest))
-        }
+        (λ manifest. ForSome (D.state device.old).shown (λ image. manifest_of image ≡ Ok manifest)) }
     ensures damaged { (b : ℕ) → IsErrOf result (OpenFault.Damaged b)
         → ForSome (D.state device.old).shown (λ image. manifest_of image ≡ Err b) }
     ensures damaged_block { (b : ℕ) → IsErrOf result (OpenFault.Damaged b) → b < 868 }
@@ -167,7 +162,13 @@ fn read_log<D: Device>(
         (IsErrOf result OpenFault.Device) device.old device.new }
 {
     let header = manifest.header();
-    Log::open(alloc, device, manifest.geometry(), header.log_area, header.writes)
+    Log::open(
+        alloc,
+        device,
+        manifest.geometry(),
+        header.log_area,
+        header.writes,
+    )
 }
 
 /// Reads the filters of the root's tables: for each extent of the store those of its table, if it has
@@ -240,19 +241,7 @@ fn memory_of(alloc: Global, items: &[Item]) -> Result<MemTable, NoMemory>
 {
     let mut memory = MemTable::new(alloc)?;
     for item in items {
-        put_item(&mut memory, &item.view());
+        memory.add(&item.view(), item.parts());
     }
     Ok(memory)
-}
-
-/// Puts an item into the memory table.
-fn put_item(memory: &mut MemTable, item: &ItemView<'_>)
-    requires valid { IsTrue (is_valid (item_of item.now)) }
-    requires room { total_cost memory.old + item_cost (item_of item.now) ≤ table_room }
-    ensures { memory.new ≡ memory.old ++ item_of item.now ∷ [] }
-{
-    match item.kind {
-        Kind::Put => memory.put(item.key, item.value),
-        Kind::Delete => memory.delete(item.key),
-    }
 }

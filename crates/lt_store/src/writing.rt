@@ -27,7 +27,7 @@ use crate::faults::{FlushFault, WriteFault};
 use crate::store::Store;
 use lt_alloc::Short;
 use lt_device::Device;
-use lt_item::{ItemView, Kind, cost};
+use lt_item::{ItemView, Kind, cost, parts_of};
 use lt_page::Failed;
 use std::alloc::Global;
 
@@ -260,18 +260,14 @@ impl Store {
     fn append(&mut self, item: &ItemView<'_>)
         requires up { self.old.is_up ≡ true }
         requires valid { IsTrue (is_valid (item_of item.now)) }
-        requires room { total_cost self.old.log.pending + item_cost (item_of item.now) ≤ group_room
-            }
+        requires room { total_cost self.old.log.pending + item_cost (item_of item.now) ≤ group_room }
         requires small { total_cost (view_of self.old).memory ≤ 200000 }
         requires slot { self.old.log.slots < (view_of self.old).named.geometry.slots }
         requires number { (view_of self.old).writes ≢ most_writes }
         ensures { view_of self.new ≡ appended (view_of self.old) (item_of item.now) }
     {
         self.log.append(item).unwrap();
-        match item.kind {
-            Kind::Put => self.memory.put(item.key, item.value),
-            Kind::Delete => self.memory.delete(item.key),
-        }
+        self.memory.add(item, &parts_of(item.key));
         self.writes += 1;
         self.refused = None;
     }

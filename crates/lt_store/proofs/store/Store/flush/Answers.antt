@@ -13,7 +13,7 @@ use Rattle.lt_store.specs.Flushing.{AreFree, flush_header, flushed_log}
 use Rattle.lt_store.specs.Open.{StoreView}
 use Rattle.lt_store.specs.View.{view_of}
 use Rattle.lt_store.proofs.MomentLaws.{open-alike}
-use Rattle.lt_store.proofs.PartLaws.{newest-some}
+use Rattle.lt_store.proofs.NewestLaws.{newest-some}
 use Rattle.lt_store.proofs.ReserveLaws.{reserved-len, reserved-free, reserved-distinct, reserved-below, flushed-kept, back-kept, kept-along, memory-few}
 use Rattle.lt_store.proofs.RootedLaws.{rooted-none}
 use Rattle.lt_store.proofs.store.Store.flush.Goals as goal

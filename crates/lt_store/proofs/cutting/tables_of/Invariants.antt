@@ -1,6 +1,0 @@
-use Rattle.std.proofs.Common.{map, drop}
-use Rattle.lt_store.proofs.CutLaws.{IsCutting}
-use Rattle.lt_store.proofs.cutting.tables_of.Given as goal
-
-abbrev pub invariant-loop-count : goal.invariant-loop-count
-invariant-loop-count l = IsCutting l.items (map (λ table. table.now) l.tables.items) (drop l.count-index l.count-items) l.rest
