@@ -115,7 +115,7 @@ module _ (e : ℕ) (before : State) (input output kept : List ℕ) (w : StoreVie
     all = λ done. absurd (other done);
     paused = λ pause. (refl, refl);
     far = reached-far;
-    whole = λ inner still. (length r.replies, r.text ∙ ap texts (sym (take_all (length r.replies) r.replies (omega arith))));
+    whole = λ inner still. record { shown = r.replies; hidden = []; order = sym (append-nil r.replies); text = r.text; first = tt };
     since = r.since;
     rooted = r.rooted;
     at_exit = open-has w before r.writes (acknowledged r.replies (length output)) now r.opened reached-sure;

@@ -245,7 +245,7 @@ over-unopened e before status faults0 faults s r =
       all = λ done. (refl, refl);
       paused = λ pause. (refl, refl);
       far = λ front behind is long. absurd (omega (arith, ap length is, length-append front behind));
-      whole = λ inner still. (0, refl);
+      whole = λ inner still. record { shown = []; hidden = []; order = refl; text = refl; first = tt };
       since = begins s (λ left may. prefix-none left before [] (r.rest.each left may));
       rooted = begins s (rests-rooted before s r);
       at_exit = λ left may. prefix-none left before [] (r.rest.each left may);

@@ -7,7 +7,6 @@ use Rattle.lt_image.specs.Standing.{IsPrefix, after_writes}
 use Rattle.lt_language.specs.Commands.{Command, command_of, commands}
 use Rattle.lt_language.specs.Lines.{lines_of, rest_of}
 use Rattle.lt_language.specs.Machine.{State}
-use Rattle.lt_language.specs.Replies as replies
 use Rattle.lt_language.specs.Replies.{Reply, texts}
 use Rattle.lt_line.specs.Held.{HeldLine, kept_of}
 use Rattle.lt_line.specs.Waiting.{Waiting}
@@ -16,13 +15,7 @@ use Rattle.lt_store.specs.Open.{StoreView, IsOpen, IsRooted, Rests, extents_of, 
 use Rattle.lt_serve.specs.declared.faults.RoundFault.{RoundFault}
 use Rattle.lt_serve.specs.declared.faults.RoundFault.TheVariants as faults
 use Rattle.lt_serve.specs.Faults.{IsLost}
-use Rattle.lt_serve.specs.Runs.{Runs, ok_count}
-
--- there are none, or the first of them is an `OK`
-abbrev pub StartWithOk : List Reply → Type 0
-StartWithOk [] = Unit {0}
-StartWithOk (replies.ok ∷ rest) = Unit {0}
-StartWithOk rest = ⊥
+use Rattle.lt_serve.specs.Runs.{Runs, StartWithOk, ok_count}
 
 -- all text that waits, settled or not
 abbrev pub all_text : Waiting → List ℕ

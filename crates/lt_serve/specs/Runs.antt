@@ -22,6 +22,12 @@ is_ok reply = false
 abbrev pub ok_count : List Reply → ℕ
 ok_count replies = count_by is_ok replies
 
+-- there are none, or the first of them is an `OK`
+abbrev pub StartWithOk : List Reply → Type 0
+StartWithOk [] = Unit {0}
+StartWithOk (replies.ok ∷ rest) = Unit {0}
+StartWithOk rest = ⊥
+
 -- how many of the replies are an `OK` that lies, with its line feed, in the first so many bytes of their text
 unfoldable pub acknowledged : List Reply → ℕ → ℕ
 acknowledged [] shown = 0

@@ -17,7 +17,7 @@ use Rattle.lt_store.specs.Open.{StoreView, IsOpen, IsRooted, Rests}
 use Rattle.lt_serve.specs.declared.served.Served.{Served}
 use Rattle.lt_serve.specs.declared.served.Served.TheVariants as served
 use Rattle.lt_serve.specs.Faults.{IsPause, IsInnerHalt, IsSettled}
-use Rattle.lt_serve.specs.Runs.{Runs, acknowledged}
+use Rattle.lt_serve.specs.Runs.{Runs, StartWithOk, acknowledged}
 
 -- A store of e extents that stood for `before`: all lines of the input were acted, this is the text of their replies, and all writes that were taken are durable.
 pub record Reached (e : ℕ) (before : State) (input output kept : List ℕ) (w : StoreView) (old new : told.State) : Type 0 where
@@ -39,6 +39,14 @@ pub record ShowsFirst (count : ℕ) (replies : List Reply) (output : List ℕ) :
   pub further : List ℕ
   pub whole : output ≡ texts (take count replies) ++ further
 
+-- The output is the text of the first of these replies, each of them whole: of all, or of those before a reply that is an `OK`.
+pub record ShowsUpToOk (replies : List Reply) (output : List ℕ) : Type 0 where
+  pub shown : List Reply
+  pub hidden : List Reply
+  pub order : replies ≡ shown ++ hidden
+  pub text : output ≡ texts shown
+  pub first : StartWithOk hidden
+
 -- Serving is over: first commands of the ended input were answered by the map machine, and the output is a front of the text of the replies.
 pub record Over (e : ℕ) (before : State) (status : Served) (input output : List ℕ) (faults0 faults : ℕ) (old new : told.State) : Type 0 where
   -- the commands that were acted and those that were not
@@ -56,9 +64,9 @@ pub record Over (e : ℕ) (before : State) (status : Served) (input output : Lis
   pub all : status ≡ served.Done → (others ≡ []) × (hidden ≡ [])
   -- between two lines: all lines
   pub paused : IsPause status → (acted ≡ commands input) × (hidden ≡ [])
-  -- elsewhere: the lines that end a page or more before the end of what was taken are answered, and replies are shown whole where the sink did not fail
+  -- elsewhere: the lines that end a page or more before the end of what was taken are answered; and where the sink did not fail, no reply before the first `OK` that is not shown is hidden
   pub far : (front behind : List ℕ) → input ≡ front ++ behind → 4096 ≤ length behind → ShowsFirst (length (lines_of front)) replies output
-  pub whole : IsInnerHalt status → (Rose faults0 faults → ⊥) → (count : ℕ) × (output ≡ texts (take count replies))
+  pub whole : IsInnerHalt status → (Rose faults0 faults → ⊥) → ShowsUpToOk replies output
   -- each image since the start has first writes of those that were taken, and none in part
   pub since : Leaves (λ left. IsPrefix left before writes 0) old new
   -- and its manifest names no node but the root
