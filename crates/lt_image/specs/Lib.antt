@@ -8,3 +8,4 @@ pub mod Needs
 pub mod Bound
 pub mod After
 pub mod Pressure
+pub mod Counts

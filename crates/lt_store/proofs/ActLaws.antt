@@ -1,12 +1,12 @@
 -- What an event comes to.
-use Rattle.std.proofs.Common.{◌≡◌, ℕ, ◌+◌, ◌*◌, ◌<◌, ◌≤◌, refl, sym, ap, subst, ◌∙◌, List, [], Bool, true, false, Option, Some, Result, Ok, Err, true≢false}
+use Rattle.std.proofs.Common.{◌≡◌, ℕ, ◌+◌, ◌*◌, ◌<◌, ◌≤◌, refl, sym, ap, subst, ◌∙◌, List, [], Bool, true, false, Option, Some, None, take, Result, Ok, Err, true≢false}
 use Rattle.std.specs.Prelude.{◌↔◌, ◌≢◌, IsErrOf}
 use Rattle.lt_terms.specs.Items.{Item, put_of, delete_of}
 use Rattle.lt_device.specs.State as told
 use Rattle.lt_device.specs.Moments.{Leaves}
 use Rattle.lt_language.specs.Commands as commands
 use Rattle.lt_language.specs.Commands.{Command}
-use Rattle.lt_language.specs.Machine.{State, most_writes}
+use Rattle.lt_language.specs.Machine.{State, found, most_writes}
 use Rattle.lt_image.specs.Standing.{after_writes}
 use Rattle.lt_store.specs.declared.acting.Outcome.{Outcome}
 use Rattle.lt_store.specs.declared.acting.Outcome.TheVariants as outcomes
@@ -17,11 +17,15 @@ use Rattle.lt_store.specs.declared.writing.Taken.{Taken}
 use Rattle.lt_store.specs.declared.writing.Taken.TheVariants as taken
 use Rattle.lt_htable.specs.declared.faults.LookFault.{LookFault}
 use Rattle.lt_htable.specs.declared.faults.LookFault.TheVariants as looks
-use Rattle.lt_store.specs.Acting.{IsStep, TellsSeen, reply_of}
+use Rattle.lt_store.specs.Acting.{IsStep, RepliesSeen, TellsSeen, reply_of}
 use Rattle.lt_store.specs.Faults.{IsLookFault}
-use Rattle.lt_store.specs.Getting.{AnswersSeen}
+use Rattle.lt_store.specs.Getting.{AnswersSeen, Finds}
+use Rattle.lt_tables.specs.Merge.{value_of}
+use Rattle.lt_language.specs.Replies as replies
+use Rattle.lt_language.specs.Replies.{Reply}
 use Rattle.lt_store.specs.Going.{Goes}
-use Rattle.lt_store.specs.Open.{StoreView, IsOpen, IsRooted}
+use Rattle.lt_store.specs.Open.{StoreView, IsOpen}
+use Rattle.lt_store.specs.Promise.{IsRooted}
 use Rattle.lt_store.specs.Taking.{accepted_by}
 use Rattle.lt_store.proofs.GoLaws.{goes-none}
 use Rattle.lt_store.proofs.RootedLaws.{rooted-none}
@@ -73,23 +77,37 @@ module _ (up : Bool) (result : Result Taken WriteFault) (fault : WriteFault) (wa
       by_fault (Damaged b) w = absurd (undamaged b w)
       by_fault NoMemory w = refused w
 
-  pub refused-survives : (S : Type 0) → (IsErrOf result Device → S) → (IsErrOf result NoMemory → S) → S
-  refused-survives S broken refused = by_fault fault was
-    where
-      by_fault : (f : WriteFault) → result ≡ Err f → S
-      by_fault Device w = broken w
-      by_fault (Damaged b) w = absurd (undamaged b w)
-      by_fault NoMemory w = refused w
-
 -- ---- what a get's event sees
 
 -- the key of a get
 pub same-key : (a b : List ℕ) → ◌≡◌ {A = Option Command} (Some (commands.get a)) (Some (commands.get b)) → a ≡ b
 same-key a b h = cc
 
-pub tells-fault : (page : List ℕ) (answer : Result (Option Item) LookFault) (fault : LookFault) (told : WriteFault) → IsLookFault fault told → AnswersSeen page answer (Err fault) → TellsSeen page answer (Err told)
-tells-fault page answer looks.Device told is h = subst (λ (f : WriteFault). TellsSeen page answer (Err f)) (sym is) tt
-tells-fault page answer (looks.Damaged b) told is h = subst (λ (f : WriteFault). TellsSeen page answer (Err f)) (sym is) h
+pub tells-fault : (page : List ℕ) (seen : Result (Option Item) LookFault) (fault : LookFault) (told : WriteFault) → IsLookFault fault told → AnswersSeen page seen (Err fault) → TellsSeen seen page (Err told)
+tells-fault page seen looks.Device told is h = subst (λ (f : WriteFault). TellsSeen seen page (Err f)) (sym is) tt
+tells-fault page seen (looks.Damaged b) told is h = subst (λ (f : WriteFault). TellsSeen seen page (Err f)) (sym is) (by_seen seen h)
+  where
+    by_seen : (r : Result (Option Item) LookFault) → AnswersSeen page r (Err (looks.Damaged b)) → r ≡ Err (looks.Damaged b)
+    by_seen (Ok item) h = absurd h
+    by_seen (Err fault) h = ap Err h
+
+-- the reply of a value that was found
+pub tells-value : (page : List ℕ) (seen : Result (Option Item) LookFault) (n : ℕ) → AnswersSeen page seen (Ok (Some n)) → RepliesSeen seen (Some (replies.value (take n page)))
+tells-value page (Err fault) n h = absurd h
+tells-value page (Ok item) n h = by_value (value_of item) h
+  where
+    by_value : (value : Option (List ℕ)) → Finds page value (Some n) → Some (replies.value (take n page)) ≡ Some (found value)
+    by_value (Some value) h = ap (λ (bytes : List ℕ). Some (replies.value bytes)) h.1
+    by_value None h = absurd h
+
+-- and of none
+pub tells-none : (page : List ℕ) (seen : Result (Option Item) LookFault) → AnswersSeen page seen (Ok None) → RepliesSeen seen (Some replies.none)
+tells-none page (Err fault) h = absurd h
+tells-none page (Ok item) h = by_value (value_of item) h
+  where
+    by_value : (value : Option (List ℕ)) → Finds page value None → Some replies.none ≡ Some (found value)
+    by_value (Some value) h = absurd h
+    by_value None h = refl
 
 -- ---- answers within others
 
@@ -105,3 +123,6 @@ limits a P h = (λ is. h.0 (ap Ok is), λ p. same-answer a taken.Limit (h.1 p))
 
 pub same-item : (a b : Item) → ◌≡◌ {A = Option Item} (Some a) (Some b) → a ≡ b
 same-item a b h = cc
+
+pub same-stat : (a b : Stat) → ◌≡◌ {A = Result Outcome WriteFault} (Ok (outcomes.Stat a)) (Ok (outcomes.Stat b)) → a ≡ b
+same-stat a b h = cc

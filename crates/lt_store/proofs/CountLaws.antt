@@ -75,6 +75,6 @@ apart-few n taken xs len free distinct below =
 -- the tables and the free extents of a store
 pub tables-free : (n : Named) (log : LogState) (memory : List Item) (taken : List Bool) (filters writes : ℕ) → IsKept n log memory taken filters writes → table_total n.manifest.trie + free_count taken ≤ n.manifest.header.extents
 tables-free n log memory taken filters writes k =
-    let few = apart-few n.manifest.header.extents taken (named n.manifest.trie) k.extents k.free k.manifest.trie.distinct k.manifest.trie.below in
+    let few = apart-few n.manifest.header.extents taken (named n.manifest.trie) k.taken_named.len k.taken_named.free k.manifest.trie.distinct k.manifest.trie.below in
     let tables = total_named n.manifest.trie in
     omega (arith, few, tables)

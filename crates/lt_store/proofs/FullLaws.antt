@@ -28,6 +28,7 @@ use Rattle.lt_format.proofs.Numbers.{times, absent-times, without, length-withou
 use Rattle.lt_format.proofs.TrieLaws.{same_node-same}
 use Rattle.lt_redo.specs.LogState.{LogState}
 use Rattle.lt_redo.specs.Slots.{HasLog}
+use Rattle.lt_image.specs.Counts.{HasCounts}
 use Rattle.lt_image.specs.OnPath.{has_only_root}
 use Rattle.lt_image.specs.Opening.{Opened, open_image}
 use Rattle.lt_image.specs.Soundness.{block_if, located_items, stray_columns, bad_in_table, bad_table_blocks, bad_group_blocks, bad_node_blocks, bad_blocks}
@@ -39,7 +40,8 @@ use Rattle.lt_image.proofs.SoundLaws.{nil_append, nil_map, nil_flat_map, nil_blo
 use Rattle.lt_image.proofs.StandLaws.{stands-as}
 use Rattle.lt_store.specs.Kept.{IsKept}
 use Rattle.lt_store.specs.Open.{IsOpen, StoreView, root_pile}
-use Rattle.lt_store.specs.Taking.{is_due, IsFullImage}
+use Rattle.lt_image.specs.Counts.{IsFullImage}
+use Rattle.lt_store.specs.Taking.{is_due}
 use Rattle.lt_store.proofs.CommitLaws.{kept-fits, open-logs}
 use Rattle.lt_store.proofs.CountLaws.{apart-few}
 use Rattle.lt_store.proofs.MomentLaws.{open-names, open-same}
@@ -87,15 +89,15 @@ in-times x xs there = ⊎_elim
 
 free-all : (n : Named) (log : LogState) (memory : List Item) (taken : List Bool) (filters writes : ℕ) → IsKept n log memory taken filters writes → free_count taken ≡ free_extents n
 free-all n log memory taken filters writes k =
-    let few = apart-few n.manifest.header.extents taken (named n.manifest.trie) k.extents k.free k.manifest.trie.distinct k.manifest.trie.below in
+    let few = apart-few n.manifest.header.extents taken (named n.manifest.trie) k.taken_named.len k.taken_named.free k.manifest.trie.distinct k.manifest.trie.below in
     let many = taken-named taken 0 (named n.manifest.trie) at in
-    let size = k.extents in
+    let size = k.taken_named.len in
     omega (arith, few, many, size)
   where
     at : (i : ℕ) → i < length taken → is_free taken i ≡ false → 1 ≤ times (0 + i) (named n.manifest.trie)
     at i below is =
-        let within : i < n.manifest.header.extents = let size = k.extents in omega (arith, below, size) in
-        let there : is_in i (named n.manifest.trie) ≡ true = not-false (is_in i (named n.manifest.trie)) (sym (k.free i within) ∙ is) in
+        let within : i < n.manifest.header.extents = let size = k.taken_named.len in omega (arith, below, size) in
+        let there : is_in i (named n.manifest.trie) ≡ true = not-false (is_in i (named n.manifest.trie)) (sym (k.taken_named.free i within) ∙ is) in
         let e : i ≡ 0 + i = omega arith in
         subst (λ x. 1 ≤ times x (named n.manifest.trie)) e (in-times i (named n.manifest.trie) there)
 
@@ -229,3 +231,12 @@ full-image v d s filters o k due left may =
     no_items : (xs : List Item) → length xs ≡ 0 → xs ≡ []
     no_items [] none = refl
     no_items (x ∷ xs) none = absurd (omega arith)
+
+-- each image that a crash may leave has the store's numbers
+pub image-counts : (v : StoreView) (d : State) (s : told.State) (filters : ℕ) → IsOpen v d s → IsKept v.named v.log v.memory v.taken filters v.writes → (left : Image) → MayLeave s left → HasCounts left (tables_in v.named.manifest.trie) (free_count v.taken)
+image-counts v d s filters o k left may = record {
+  named = v.named;
+  names = (same-names v.named o.rest.image left (open-same v d s o left may) (open-names v d s o)).read;
+  tables_are = refl;
+  free_are = free-all v.named v.log v.memory v.taken filters v.writes k;
+}

@@ -10,9 +10,9 @@ use Rattle.lt_language.specs.Machine.{State, nothing_yet}
 use Rattle.lt_image.specs.Standing.{IsPrefix, after_writes}
 use Rattle.lt_image.proofs.KeptLaws.{writes-joined, no_writes}
 use Rattle.lt_image.proofs.PrefixLaws.{prefix-fewer, prefix-later, prefix-longer, prefix-none}
-use Rattle.lt_store.specs.Open.{IsOpen, IsRootOnly, Rests, StoreView, state_of}
+use Rattle.lt_store.specs.Open.{IsOpen, StoreView, state_of}
+use Rattle.lt_store.specs.Promise.{IsRootOnly, Rests, IsFresh}
 use Rattle.lt_store.specs.Going.{Survives, Goes, appended}
-use Rattle.lt_store.specs.Making.{IsFresh}
 use Rattle.lt_store.specs.Flushing.{Stays}
 
 -- nothing happened
@@ -35,11 +35,6 @@ goes-stays v accepted w x d old mid new g same opened run = record {
   opened = opened;
   survives = joins run g.survives (λ left stands. record { count = g.sure; at_least = omega arith; at_most = g.within; stands = stands });
 }
-
--- the same of a call that failed
-pub breaks : (v : StoreView) (accepted : List Item) (w : StoreView) (d : State) (old mid new : told.State) (g : Goes v accepted w d old mid)
-    → Stays (after_writes d (take g.sure (v.log.pending ++ accepted))) mid new → Survives v accepted d old new
-breaks v accepted w d old mid new g run = joins run g.survives (λ left stands. record { count = g.sure; at_least = omega arith; at_most = g.within; stands = stands })
 
 pub goes-append : (v : StoreView) (w : StoreView) (item : Item) (d : State) (old new : told.State) → Goes v [] w d old new → Goes v (item ∷ []) (appended w item) d old new
 goes-append v w item d old new g =

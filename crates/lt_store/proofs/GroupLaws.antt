@@ -83,7 +83,7 @@ pub take-whole : (xs : List Item) → take (length xs) (xs ++ []) ≡ xs
 take-whole [] = refl
 take-whole (x ∷ xs) = ap (λ ys. x ∷ ys) (take-whole xs)
 
-prefix-all : (image : Image) (d : State) (writes : List Item) → Stands image (after_writes d writes) → IsPrefix image d (writes ++ []) 0
+pub prefix-all : (image : Image) (d : State) (writes : List Item) → Stands image (after_writes d writes) → IsPrefix image d (writes ++ []) 0
 prefix-all image d writes stands = record {
   count = length writes;
   at_least = omega arith;

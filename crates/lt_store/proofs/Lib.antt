@@ -25,3 +25,5 @@ pub mod RootedLaws
 pub mod SameLaws
 pub mod SeenLaws
 pub mod TakeLaws
+pub mod WholeLaws
+pub mod StopLaws

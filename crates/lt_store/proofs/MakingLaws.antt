@@ -21,7 +21,8 @@ use Rattle.lt_redo.specs.Slots.{IsCleared}
 use Rattle.lt_redo.proofs.ClearLaws.{has_log-cleared}
 use Rattle.lt_image.specs.Standing.{Stands}
 use Rattle.lt_image.proofs.KeptLaws.{fresh-stands}
-use Rattle.lt_store.specs.Making.{InFresh, HasRegions, IsFresh}
+use Rattle.lt_store.specs.Making.{InFresh, HasRegions}
+use Rattle.lt_store.specs.Promise.{IsFresh}
 use Rattle.lt_store.proofs.OpenLaws.{geometry-manifest, opens}
 
 -- ---- which blocks are written

@@ -18,7 +18,8 @@ use Rattle.lt_redo.specs.Slots.{HasLog}
 use Rattle.lt_image.specs.Standing.{Stands, is_free_block}
 use Rattle.lt_store.specs.Building.{KeepsFilter}
 use Rattle.lt_store.specs.Flushing.{Stays}
-use Rattle.lt_store.specs.Open.{IsOpen, IsRootOnly, StoreView, root_pile}
+use Rattle.lt_store.specs.Open.{IsOpen, StoreView, root_pile}
+use Rattle.lt_store.specs.Promise.{IsRootOnly}
 use Rattle.lt_store.proofs.SameLaws.{Same, same-trans, same-names, same-stands, same-log, same-filters, same-free}
 use Rattle.lt_image.proofs.OpenLaws.{is-opens}
 use Rattle.lt_image.specs.Opening.{open_image}

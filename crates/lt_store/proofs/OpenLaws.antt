@@ -22,7 +22,8 @@ use Rattle.lt_redo.specs.Slots.{InLogArea}
 use Rattle.lt_image.specs.Opening.{open_image}
 use Rattle.lt_image.proofs.OpenLaws.{opens-is}
 use Rattle.lt_store.specs.Building.{KeepsFilter}
-use Rattle.lt_store.specs.Open.{StoreView, AtRest, IsRootOnly, IsOpen, root_pile, blocks_of}
+use Rattle.lt_store.specs.Open.{StoreView, IsOpen, root_pile, blocks_of}
+use Rattle.lt_store.specs.Promise.{AtRest, IsRootOnly}
 use Rattle.lt_store.specs.Reading.{Reads, KeepsFilters, IsBelowExtents, Assembles, log_at}
 use Rattle.lt_store.proofs.FilterLaws.{pile-few}
 
@@ -133,8 +134,7 @@ assembled-reads image g n log items all kept v same is log_is has items_is filte
       log = a.log_is ∙ log_is ∙ ap (log_at n) has.slots_is;
       memory = a.memory ∙ whole;
       writes = a.writes ∙ ap (λ (xs : List Item). n.manifest.header.writes + length xs) whole;
-      extents = a.extents;
-      free = a.free;
+      taken_named = a.taken_named;
       filters = subst (λ q. KeepsFilters q v.kept (root_pile n.manifest.trie) image) (sym same) (subst (λ f. KeepsFilters g f (root_pile n.manifest.trie) image) (sym a.kept_is) filters);
     }
 
@@ -161,7 +161,7 @@ pub stands-room : (g : Geometry) (blocks e : ℕ) → extents_stand g blocks e �
 stands-room g blocks e stands = leb-true _ _ (and_parts (nat_le 1 e && nat_le e 65536) (nat_le (blocks_needed g e) blocks) stands).1
 
 -- no store has more slots and more tables of the root than these
-pub few-reads : (g : Geometry) (blocks : ℕ) (m : Manifest) → is_geometry g ≡ true → IsManifest g blocks m → 435 + 2 * g.slots + length (root_pile m.trie) ≤ 435 + 2 * 512 + 65536
+pub few-reads : (g : Geometry) (blocks : ℕ) (m : Manifest) → is_geometry g ≡ true → IsManifest g blocks m → 307 + 2 * g.slots + length (root_pile m.trie) ≤ 307 + 2 * 512 + 65536
 few-reads g blocks m valid is = omega (arith, few-slots g valid, pile-few m.trie is.trie, stands-few g blocks m.header.extents is.extents)
 
 pub assembled-room : (g : Geometry) (blocks : ℕ) (n : Named) (log : LogState) (items : List Item) (kept : List (Option (List ℕ))) (v : StoreView) → n.geometry ≡ g → IsManifest g blocks n.manifest → Assembles n log items kept v → blocks_of v ≤ blocks

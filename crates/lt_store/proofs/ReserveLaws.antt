@@ -59,11 +59,11 @@ module _ (n : Named) (log : LogState) (memory : List Item) (taken now : List Boo
 
   pub reserved-free : AreFree n numbers
   reserved-free = record {
-    below = λ x there. let below = is_free-within taken x (was_free x there) in let size = k.extents in omega (arith, below, size);
+    below = λ x there. let below = is_free-within taken x (was_free x there) in let size = k.taken_named.len in omega (arith, below, size);
     unnamed = λ x there.
         let free = was_free x there in
-        let below : x < n.manifest.header.extents = let b = is_free-within taken x free in let size = k.extents in omega (arith, b, size) in
-        not_true (is_in x (named n.manifest.trie)) (sym (k.free x below) ∙ free);
+        let below : x < n.manifest.header.extents = let b = is_free-within taken x free in let size = k.taken_named.len in omega (arith, b, size) in
+        not_true (is_in x (named n.manifest.trie)) (sym (k.taken_named.free x below) ∙ free);
   }
 
   pub reserved-distinct : all_distinct numbers ≡ true
@@ -129,7 +129,7 @@ flushed-kept n m log memory taken now filters writes count numbers header k r so
     let bound = ltb-true _ (2 ^ 64) (and_parts (nat_le (total_cost memory) log_room) (nat_lt (n.manifest.header.writes + length memory) (2 ^ 64)) k.fits).1 in
     let is = k.number in
     omega (arith, bound, is) in
-    let size = k.extents in
+    let size = k.taken_named.len in
     let same = r.same_extents in
     let filled = k.filters_len in
     record {
@@ -144,12 +144,14 @@ flushed-kept n m log memory taken now filters writes count numbers header k r so
       within = omega arith;
       slot = λ none. absurd (omega arith);
       room = omega arith;
-      extents = same ∙ size ∙ sym head_extents;
-      free = λ x small.
+      taken_named = record {
+        len = same ∙ size ∙ sym head_extents;
+        free = λ x small.
           let within : x < n.manifest.header.extents = omega (arith, small, head_extents) in
           let there : is_in x (named m.manifest.trie) ≡ (is_in x (named n.manifest.trie) || is_in x numbers) = ap (λ (t : Trie). is_in x (named t)) trie ∙ named-flush n.manifest.trie numbers x k.manifest.trie.rising some in
-          r.others_stay x ∙ ap (λ b. b && not (is_in x r.numbers)) (k.free x within) ∙ both (is_in x (named n.manifest.trie)) (is_in x r.numbers)
+          r.others_stay x ∙ ap (λ b. b && not (is_in x r.numbers)) (k.taken_named.free x within) ∙ both (is_in x (named n.manifest.trie)) (is_in x r.numbers)
           ∙ ap (λ b. not (is_in x (named n.manifest.trie) || b)) (ap (is_in x) (sym r.appended)) ∙ ap not (sym there);
+      };
       filters_len = filled ∙ sym head_extents;
     }
   where
@@ -172,8 +174,10 @@ back-kept n m log log' memory memory' taken now given filters filters' writes wr
   within = k'.within;
   slot = k'.slot;
   room = k'.room;
-  extents = size ∙ r.same_extents ∙ k'.extents;
-  free = λ x small. given-free n log memory taken now filters writes count numbers k r given back x (let len = k'.extents in omega (arith, small, len)) ∙ k'.free x small;
+  taken_named = record {
+    len = size ∙ r.same_extents ∙ k'.taken_named.len;
+    free = λ x small. given-free n log memory taken now filters writes count numbers k r given back x (let len = k'.taken_named.len in omega (arith, small, len)) ∙ k'.taken_named.free x small;
+  };
   filters_len = k'.filters_len;
 }
 

@@ -14,7 +14,8 @@ use Rattle.lt_manifest.specs.Moments.{Names, HasOldOrNew}
 use Rattle.lt_redo.specs.Slots.{InSlot}
 use Rattle.lt_image.specs.Standing.{Stands, is_free_block}
 use Rattle.lt_image.proofs.RootLaws.{root-flush}
-use Rattle.lt_store.specs.Open.{IsOpen, IsRootOnly, IsRooted, Rests, StoreView}
+use Rattle.lt_store.specs.Open.{IsOpen, StoreView}
+use Rattle.lt_store.specs.Promise.{IsRootOnly, IsRooted, Rests}
 use Rattle.lt_store.proofs.GroupLaws.{low-slot}
 use Rattle.lt_store.proofs.MomentLaws.{open-names, open-same, sure-agrees}
 use Rattle.lt_store.proofs.SameLaws.{Same, same-names, same-stands, same-free}

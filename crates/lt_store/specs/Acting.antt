@@ -3,7 +3,7 @@ use Rattle.std.specs.Prelude.{◌≡◌, ℕ, Bool, true, false, List, [], take,
 use Rattle.lt_terms.specs.Items.{Item, is_key, is_valid, put_of, delete_of}
 use Rattle.lt_language.specs.Commands as commands
 use Rattle.lt_language.specs.Commands.{Command}
-use Rattle.lt_language.specs.Machine.{State, Step}
+use Rattle.lt_language.specs.Machine.{State, Step, found}
 use Rattle.lt_language.specs.Replies as replies
 use Rattle.lt_language.specs.Replies.{Reply}
 use Rattle.lt_store.specs.declared.acting.EventView.{EventView}
@@ -15,7 +15,11 @@ use Rattle.lt_store.specs.declared.faults.WriteFault.TheVariants as writes
 use Rattle.lt_store.specs.declared.writing.Taken.TheVariants as taken
 use Rattle.lt_htable.specs.declared.faults.LookFault.{LookFault}
 use Rattle.lt_htable.specs.declared.faults.LookFault.TheVariants.{Damaged}
-use Rattle.lt_store.specs.Getting.{AnswersSeen, KeepsRest, asked}
+use Rattle.lt_format.specs.Naming.{Named}
+use Rattle.lt_tables.specs.Merge.{value_of}
+use Rattle.lt_terms.specs.Bytes.{Image}
+use Rattle.lt_store.specs.Promise.{StopsGet}
+use Rattle.lt_store.specs.Getting.{KeepsRest, asked}
 use Rattle.lt_store.specs.Open.{StoreView}
 use Rattle.lt_store.specs.Taking.{accepted_by}
 
@@ -76,10 +80,20 @@ abbrev pub asked_by : StoreView → EventView → ℕ
 asked_by v (events.Get key) = asked v key.now
 asked_by v event = 0
 
--- what a get's event answers where it sees a key so
-abbrev pub TellsSeen : List ℕ → Result (Option Item) LookFault → Result Outcome WriteFault → Type 0
-TellsSeen page seen (Ok (outcomes.Value n)) = AnswersSeen page seen (Ok (Some n))
-TellsSeen page seen (Ok outcomes.Missing) = AnswersSeen page seen (Ok None)
-TellsSeen page seen (Err writes.Device) = Unit {0}
-TellsSeen page seen (Err (writes.Damaged block)) = AnswersSeen page seen (Err (Damaged block))
-TellsSeen page seen answer = ⊥
+-- a get's reply, where the key is seen like this: the value of the item, or none; a block that spells no bucket has no reply
+abbrev pub RepliesSeen : Result (Option Item) LookFault → Option Reply → Type 0
+RepliesSeen (Ok item) reply = reply ≡ Some (found (value_of item))
+RepliesSeen (Err fault) reply = ⊥
+
+-- what a get's event answers, where the key is seen like this: the reply, or the block that spells no bucket, unless the device failed
+abbrev pub TellsSeen : Result (Option Item) LookFault → List ℕ → Result Outcome WriteFault → Type 0
+TellsSeen seen page (Ok outcome) = RepliesSeen seen (reply_of outcome page)
+TellsSeen seen page (Err writes.Device) = Unit {0}
+TellsSeen seen page (Err (writes.Damaged block)) = seen ≡ Err (Damaged block)
+TellsSeen seen page (Err writes.NoMemory) = ⊥
+
+-- the event is a get of a key that stops at this block
+pub record IsStopped (named : Named) (shown : Option Image) (event : EventView) (block : ℕ) : Type 0 where
+  pub key : List ℕ
+  pub get : command_of event ≡ Some (commands.get key)
+  pub stops : StopsGet named shown key block

@@ -14,6 +14,7 @@ use Rattle.lt_format.specs.Layout.{extent_block}
 use Rattle.lt_htable.specs.declared.faults.LookFault.{LookFault}
 use Rattle.lt_htable.specs.declared.faults.LookFault.TheVariants.{Device, Damaged}
 use Rattle.lt_htable.specs.Reading.{at_home, target_of}
+use Rattle.lt_image.specs.Opening.{Opened, log_items}
 use Rattle.lt_image.specs.Versions.{extent_in, items_at}
 use Rattle.lt_store.specs.declared.getting.Version.{Version}
 use Rattle.lt_store.specs.declared.getting.Version.TheVariants.{Value, Deleted}
@@ -112,23 +113,31 @@ seen_in image first key =
     let home = look_on (block_at image (first + home_column key)) key in
     at_home first (home_column key) home (option_and_then (λ column. look_on (block_at image (first + column)) key) (target_of home))
 
--- what is seen of a key in one table: none where its kept filter does not cover the key
-abbrev pub seen_at : Geometry → List (Option (List ℕ)) → Image → List ℕ → ℕ → Result (Option Item) LookFault
-seen_at g kept image key x = if may_hold kept key x then seen_in image (extent_block g x) key else Ok None
+-- the filter of the table in an extent covers the key, as the image has it
+abbrev pub is_covered : Geometry → Image → List ℕ → ℕ → Bool
+is_covered g image key x = covers (extent_in g image x 64) (home_column key) key
+
+-- what is seen of a key in one table: none where the table does not pass the test, as its filter does not cover the key
+abbrev pub seen_at : Geometry → (ℕ → Bool) → Image → List ℕ → ℕ → Result (Option Item) LookFault
+seen_at g holds image key x = if holds x then seen_in image (extent_block g x) key else Ok None
 
 -- the newer answer, where it is an item or a block; else the older one
 abbrev pub before_older : Result (Option Item) LookFault → Result (Option Item) LookFault → Result (Option Item) LookFault
 before_older (Ok None) older = older
 before_older newer older = newer
 
--- what is seen of a key in a pile: the newest table that has an item of it decides, or one whose page spells no bucket
-abbrev pub seen : Geometry → List (Option (List ℕ)) → Image → List ℕ → List ℕ → Result (Option Item) LookFault
-seen g kept image key [] = Ok None
-seen g kept image key (x ∷ newer) = before_older (seen g kept image key newer) (seen_at g kept image key x)
+-- what is seen of a key in the tables of a pile that pass the test: the newest that has an item of it decides, or one whose page spells no bucket
+abbrev pub seen : Geometry → (ℕ → Bool) → Image → List ℕ → List ℕ → Result (Option Item) LookFault
+seen g holds image key [] = Ok None
+seen g holds image key (x ∷ newer) = before_older (seen g holds image key newer) (seen_at g holds image key x)
 
--- what a store sees of a key: its memory table is newer than the root's tables
+-- what a store sees of a key: its memory table is newer than the root's tables, whose filters it keeps
 abbrev pub seen_of : StoreView → Image → List ℕ → Result (Option Item) LookFault
-seen_of v image key = before_older (Ok (newest_of key v.memory)) (seen v.named.geometry v.kept image key (root_pile v.named.manifest.trie))
+seen_of v image key = before_older (Ok (newest_of key v.memory)) (seen v.named.geometry (may_hold v.kept key) image key (root_pile v.named.manifest.trie))
+
+-- what is seen of a key on an image as it opens: its log is newer than the root's tables
+abbrev pub seen_on : Opened → Image → List ℕ → Result (Option Item) LookFault
+seen_on o image key = before_older (Ok (newest_of key (log_items o))) (seen o.named.geometry (is_covered o.named.geometry image key) image key (root_pile o.named.manifest.trie))
 
 -- the answer is this fault, or that the device failed
 abbrev pub IsFaultOf : {T : Type 0} → LookFault → Result T LookFault → Type 0

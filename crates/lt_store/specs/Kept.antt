@@ -1,8 +1,7 @@
 -- What a store keeps in memory, and the facts of it that hold whatever its device tells.
-use Rattle.std.specs.Prelude.{◌≡◌, ℕ, ◌+◌, ◌-◌, ◌<◌, ◌≤◌, Bool, not, List, ◌++◌, length, take, IsTrue}
+use Rattle.std.specs.Prelude.{◌≡◌, ℕ, ◌+◌, ◌-◌, ◌<◌, ◌≤◌, Bool, List, ◌++◌, length, take, IsTrue}
 use Rattle.lt_terms.specs.Items.{Item, total_cost}
-use Rattle.lt_terms.specs.Numbers.{is_in}
-use Rattle.lt_alloc.specs.Extents.{is_free}
+use Rattle.lt_alloc.specs.Extents.{AreTaken}
 use Rattle.lt_format.specs.Log.{group_room, log_fits}
 use Rattle.lt_format.specs.Naming.{Named}
 use Rattle.lt_format.specs.Trie.{named}
@@ -30,6 +29,5 @@ pub record IsKept (n : Named) (log : LogState) (memory : List Item) (taken : Lis
   pub within : log.slots ≤ n.geometry.slots
   pub slot : 0 < length log.pending → log.slots < n.geometry.slots
   pub room : total_cost log.pending ≤ group_room
-  pub extents : length taken ≡ n.manifest.header.extents
-  pub free : (x : ℕ) → x < n.manifest.header.extents → is_free taken x ≡ not (is_in x (named n.manifest.trie))
+  pub taken_named : AreTaken n.manifest.header.extents (named n.manifest.trie) taken
   pub filters_len : filters ≡ n.manifest.header.extents

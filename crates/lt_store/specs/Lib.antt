@@ -1,7 +1,7 @@
 pub mod Acting
 pub mod Building
 pub mod Committing
-pub mod Damage
+pub mod Counts
 pub mod Faults
 pub mod Flushing
 pub mod Getting
@@ -9,6 +9,7 @@ pub mod Going
 pub mod Kept
 pub mod Making
 pub mod Open
+pub mod Promise
 pub mod Reading
 pub mod Taking
 pub mod View

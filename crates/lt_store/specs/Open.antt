@@ -1,47 +1,19 @@
 -- What an open store has of its device.
-use Rattle.std.specs.Prelude.{◌≡◌, ℕ, ◌++◌, Bool, List, Option, Some, IsTrue, length}
+use Rattle.std.specs.Prelude.{◌≡◌, ℕ, ◌++◌, Bool, List, Option, length}
 use Rattle.std.specs.List.{AllByRecursion}
 use Rattle.lt_terms.specs.Bytes.{Image}
 use Rattle.lt_terms.specs.Items.{Item}
 use Rattle.lt_device.specs.State as told
-use Rattle.lt_device.specs.Image.{SameOutside}
-use Rattle.lt_device.specs.Moments.{MayLeave}
 use Rattle.lt_language.specs.Machine.{State}
 use Rattle.lt_format.specs.Layout.{blocks_needed}
 use Rattle.lt_format.specs.Log.{items_in}
 use Rattle.lt_format.specs.Naming.{Named}
 use Rattle.lt_format.specs.Trie.{Trie, root, node_at}
-use Rattle.lt_manifest.specs.Moments.{Names}
 use Rattle.lt_redo.specs.LogState.{LogState}
 use Rattle.lt_redo.specs.Slots.{HasLog}
-use Rattle.lt_image.specs.OnPath.{has_only_root}
-use Rattle.lt_image.specs.Standing.{Stands, is_free_block, after_writes}
+use Rattle.lt_image.specs.Standing.{after_writes}
 use Rattle.lt_store.specs.Building.{KeepsFilter}
-
--- A device that tells its blocks and what a crash may leave: each image that it may leave stands for this state, and they are what the device reads as but for blocks of extents that the manifest does not name.
-pub record AtRest (s : State) (device : told.State) : Type 0 where
-  pub image : Image
-  pub shown : device.shown ≡ Some image
-  pub tells : MayLeave device image
-  pub each : (left : Image) → MayLeave device left → Stands left s
-  pub named : Named
-  pub names : Names named image
-  pub agree : (left : Image) → MayLeave device left → SameOutside (λ n. IsTrue (is_free_block named n)) image left
-
--- no node but the root has tables
-pub record IsRootOnly (trie : Trie) : Type 0 where
-  pub only : IsTrue (has_only_root trie)
-
--- no node but the root of the image's manifest has tables
-pub record IsRooted (image : Image) : Type 0 where
-  pub named : Named
-  pub names : Names named image
-  pub root_only : IsRootOnly named.manifest.trie
-
--- at rest, and no node but the root has tables
-pub record Rests (s : State) (device : told.State) : Type 0 where
-  pub rest : AtRest s device
-  pub root_only : IsRootOnly rest.named.manifest.trie
+use Rattle.lt_store.specs.Promise.{AtRest, IsRootOnly}
 
 -- a store as its calls see it; `kept` has the filter blocks of tables, by extent
 pub record StoreView : Type 0 where
@@ -79,3 +51,8 @@ extents_of v = v.named.manifest.header.extents
 -- how many blocks the store uses
 abbrev pub blocks_of : StoreView → ℕ
 blocks_of v = blocks_needed v.named.geometry (extents_of v)
+
+-- both stores have the same geometry and the same number of extents
+pub record SameRegions (v w : StoreView) : Type 0 where
+  pub geometry : w.named.geometry ≡ v.named.geometry
+  pub extents : extents_of w ≡ extents_of v

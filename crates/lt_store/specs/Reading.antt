@@ -1,10 +1,10 @@
 -- What opening a store reads of an image, and where it may find damage.
-use Rattle.std.specs.Prelude.{◌≡◌, ℕ, ◌+◌, ◌<◌, true, false, not, List, [], Option, None, length, IsTrue, slice_index_or, Ok}
+use Rattle.std.specs.Prelude.{◌≡◌, ℕ, ◌+◌, ◌<◌, true, false, List, [], Option, None, length, IsTrue, slice_index_or, Ok}
 use Rattle.std.specs.List.{AllByRecursion}
 use Rattle.lt_terms.specs.Bytes.{Image}
 use Rattle.lt_terms.specs.Items.{Item}
 use Rattle.lt_terms.specs.Numbers.{is_in}
-use Rattle.lt_alloc.specs.Extents.{is_free}
+use Rattle.lt_alloc.specs.Extents.{AreTaken}
 use Rattle.lt_format.specs.declared.geometry.Geometry.{Geometry}
 use Rattle.lt_format.specs.Layout.{is_geometry, extent_block}
 use Rattle.lt_format.specs.Naming.{Named}
@@ -38,8 +38,7 @@ pub record Reads (v : StoreView) (image : Image) : Type 0 where
   pub log : v.log ≡ log_at opened.named (length opened.groups)
   pub memory : v.memory ≡ log_items opened
   pub writes : v.writes ≡ number_of opened
-  pub extents : length v.taken ≡ opened.named.manifest.header.extents
-  pub free : (x : ℕ) → x < opened.named.manifest.header.extents → is_free v.taken x ≡ not (is_in x (named opened.named.manifest.trie))
+  pub taken_named : AreTaken opened.named.manifest.header.extents (named opened.named.manifest.trie) v.taken
   pub filters : KeepsFilters opened.named.geometry v.kept (root_pile opened.named.manifest.trie) image
 
 -- the block lies below all extents of some geometry
@@ -56,5 +55,4 @@ pub record Assembles (n : Named) (log : LogState) (items : List Item) (kept : Li
   pub memory : v.memory ≡ items
   pub kept_is : v.kept ≡ kept
   pub writes : v.writes ≡ n.manifest.header.writes + length items
-  pub extents : length v.taken ≡ n.manifest.header.extents
-  pub free : (x : ℕ) → x < n.manifest.header.extents → is_free v.taken x ≡ not (is_in x (named n.manifest.trie))
+  pub taken_named : AreTaken n.manifest.header.extents (named n.manifest.trie) v.taken

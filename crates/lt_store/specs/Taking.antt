@@ -1,14 +1,10 @@
 -- What a write that was taken leaves, and when one is refused for want of extents.
-use Rattle.std.specs.Prelude.{◌≡◌, ℕ, ◌+◌, ◌<◌, Bool, ◌&&◌, ◌||◌, List, [], ◌∷◌, Ok, IsTrue, nat_le, nat_lt, ◌==◌, length, if◌then◌else◌}
-use Rattle.lt_terms.specs.Bytes.{Image}
+use Rattle.std.specs.Prelude.{◌≡◌, ℕ, ◌+◌, ◌<◌, Bool, ◌&&◌, ◌||◌, List, [], ◌∷◌, IsTrue, nat_le, nat_lt, ◌==◌, length, if◌then◌else◌}
 use Rattle.lt_terms.specs.Items.{Item, total_cost}
 use Rattle.lt_tables.specs.Cut.{table_total}
 use Rattle.lt_tables.specs.Merge.{newest}
 use Rattle.lt_alloc.specs.Extents.{free_count}
 use Rattle.lt_format.specs.Log.{group_room}
-use Rattle.lt_image.specs.Opening.{Opened, open_image}
-use Rattle.lt_image.specs.Pressure.{flush_tables, is_flush_due}
-use Rattle.lt_image.specs.Versions.{free_extents}
 use Rattle.lt_store.specs.declared.writing.Taken.{Taken}
 use Rattle.lt_store.specs.declared.writing.Taken.TheVariants as taken
 use Rattle.lt_store.specs.Committing.{committed}
@@ -34,11 +30,3 @@ pub record IsFull (v : StoreView) (needed free : ℕ) : Type 0 where
   pub needs : needed ≡ table_total (newest v.memory)
   pub has : free ≡ free_count v.taken
   pub short : free < needed
-
--- a flush is due on the image, and gives so many tables, with so many extents free
-pub record IsFullImage (image : Image) (needed free : ℕ) : Type 0 where
-  pub opened : Opened
-  pub opens : open_image image ≡ Ok opened
-  pub due : IsTrue (is_flush_due opened)
-  pub needs : flush_tables opened ≡ needed
-  pub has : free_extents opened.named ≡ free

@@ -5,22 +5,23 @@ ghost use Rattle.lt_terms.specs.Bytes.{Image};
 ghost use Rattle.lt_terms.specs.Causes.{Rose};
 ghost use Rattle.lt_terms.specs.Items as terms;
 ghost use Rattle.lt_terms.specs.Items.{item_cost, total_cost};
-ghost use Rattle.lt_alloc.specs.Extents.{free_count};
 ghost use Rattle.lt_device.specs.Moments.{Leaves, MayLeave};
 ghost use Rattle.lt_device.specs.Reads.{CountsAtMost};
 ghost use Rattle.lt_format.specs.Log.{group_room};
-ghost use Rattle.lt_format.specs.Trie.{table_total};
+ghost use Rattle.lt_image.specs.Counts.{HasCounts};
 ghost use Rattle.lt_image.specs.Standing.{after_writes};
 ghost use Rattle.lt_language.specs.Commands as commands;
 ghost use Rattle.lt_language.specs.Machine.{State, most_writes};
-ghost use Rattle.lt_store.specs.Acting.{IsStep, KeepsOut, MayAct, TellsSeen, accepted_as, asked_by, command_of, only_asks, reply_of, write_of};
-ghost use Rattle.lt_store.specs.Committing.{committed};
-ghost use Rattle.lt_store.specs.Damage.{StopsGet};
+ghost use Rattle.lt_store.specs.Acting.{IsStep, IsStopped, KeepsOut, MayAct, TellsSeen, accepted_as, asked_by, command_of, only_asks, reply_of, write_of};
+ghost use Rattle.lt_store.specs.Committing.{StandsForEither, committed};
+ghost use Rattle.lt_store.specs.Counts.{stat_of};
 ghost use Rattle.lt_store.specs.Flushing.{IsFlushed};
-ghost use Rattle.lt_store.specs.Getting.{IsBucketOf, seen_of};
+ghost use Rattle.lt_store.specs.Getting.{seen_of};
 ghost use Rattle.lt_store.specs.Going.{Goes, Survives, appended};
-ghost use Rattle.lt_store.specs.Open.{IsOpen, IsRooted, StoreView, blocks_of, extents_of, root_pile, state_of};
-ghost use Rattle.lt_store.specs.Taking.{is_due, readied, IsFull, IsFullImage};
+ghost use Rattle.lt_store.specs.Open.{SameRegions, IsOpen, StoreView, blocks_of, extents_of, root_pile, state_of};
+ghost use Rattle.lt_store.specs.Promise.{IsRooted};
+ghost use Rattle.lt_image.specs.Counts.{IsFullImage};
+ghost use Rattle.lt_store.specs.Taking.{is_due, readied, IsFull};
 ghost use Rattle.lt_store.specs.View.{view_of};
 
 use crate::counts::Stat;
@@ -80,6 +81,10 @@ impl Store {
         ensures broken { OnErr result ((durable : State) → IsOpen (view_of self.old) durable (D.state device.old)
             → Survives (view_of self.old) [] durable (D.state device.old) (D.state device.new)) }
 
+        // The open group is there as a whole, or not at all.
+        ensures whole { (durable : State) → IsOpen (view_of self.old) durable (D.state device.old)
+            → Leaves (StandsForEither durable (state_of (view_of self.old) durable)) (D.state device.old) (D.state device.new) }
+
         ensures rooted { (durable : State) → IsOpen (view_of self.old) durable (D.state device.old) → Leaves IsRooted (D.state device.old) (D.state device.new) }
         ensures committed { command_of event.entry ≡ None → OnOk result (view_of self.new ≡ committed (view_of self.old)) }
         ensures asked { IsTrue (only_asks event.entry) → (view_of self.new ≡ view_of self.old) × (D.state device.new ≡ D.state device.old) }
@@ -101,27 +106,27 @@ impl Store {
         ensures memory_due { (item : terms.Item) → write_of event.entry ≡ Some item → IsErrOf result WriteFault.NoMemory → is_due (readied (view_of self.old) (item_cost item)) ≡ true }
 
         ensures idle { command_of event.entry ≡ None → (view_of self.old).log.pending ≡ [] → (result ≡ Ok Outcome.Committed) × (device.new ≡ device.old) }
-        ensures stat { (s : Stat) → result ≡ Ok (Outcome.Stat s) → s ≡ record {
-          writes = (view_of self.old).writes;
-          reads = D.reads device.old;
-          tables = table_total (view_of self.old).named.manifest.trie;
-          free = free_count (view_of self.old).taken;
-        } }
+        // The numbers of the store and its device at this moment, and those of each image that a crash may leave.
+        ensures stat { (s : Stat) → result ≡ Ok (Outcome.Stat s) → s ≡ stat_of (view_of self.old) (D.reads device.old) }
+        ensures stat_images { (s : Stat) → result ≡ Ok (Outcome.Stat s)
+            → (durable : State) → IsOpen (view_of self.old) durable (D.state device.old)
+            → (left : Image) → MayLeave (D.state device.old) left → HasCounts left s.tables s.free }
         ensures number { IfOk result (λ outcome. (view_of self.new).writes ≡ (view_of self.old).writes + length (accepted_as outcome (write_of event.entry))) }
         ensures same_number { OnErr result (self.new.is_up ≡ true → (view_of self.new).writes ≡ (view_of self.old).writes) }
         ensures page { KeepsOut result out.old out.new }
 
-        ensures seen { (key : List ℕ) (image : Image) → command_of event.entry ≡ Some (commands.get key) → (D.state device.old).shown ≡ Some image → TellsSeen out.new (seen_of (view_of self.old) image key) result }
+        // Whatever the blocks hold, a get answers what it sees of the key, or the block that spells no bucket.
+        ensures seen { (key : List ℕ) (image : Image) → command_of event.entry ≡ Some (commands.get key)
+            → (D.state device.old).shown ≡ Some image → TellsSeen (seen_of (view_of self.old) image key) out.new result }
         ensures value { (n : ℕ) → result ≡ Ok (Outcome.Value n) → n ≤ 3000 }
         ensures memory { IsErrOf result WriteFault.NoMemory → IsSome (write_of event.entry) }
-        ensures damaged { (b : ℕ) → IsErrOf result (WriteFault.Damaged b) → IsTrue (only_asks event.entry) × StopsGet (D.state device.old) b }
-        ensures damaged_block { (b : ℕ) → IsErrOf result (WriteFault.Damaged b) → IsBucketOf (view_of self.old).named.geometry (root_pile (view_of self.old).named.manifest.trie) b }
+        ensures damaged { (b : ℕ) → IsErrOf result (WriteFault.Damaged b)
+            → IsStopped (view_of self.old).named (D.state device.new).shown event.entry b }
         ensures sound { (b : ℕ) (durable : State) → IsOpen (view_of self.old) durable (D.state device.old) → IsErrOf result (WriteFault.Damaged b) → ⊥ }
         ensures cause { IsErrOf result WriteFault.Device → Rose (D.faults device.old) (D.faults device.new) }
         ensures later { D.faults device.old ≤ D.faults device.new }
         ensures up { (self.new.is_up ≡ false) ↔ (IsErrOf result WriteFault.Device × (only_asks event.entry ≡ false)) }
-        ensures blocks { self.new.is_up ≡ true → blocks_of (view_of self.new) ≡ blocks_of (view_of self.old) }
-        ensures extents { self.new.is_up ≡ true → extents_of (view_of self.new) ≡ extents_of (view_of self.old) }
+        ensures regions { self.new.is_up ≡ true → SameRegions (view_of self.old) (view_of self.new) }
         ensures size { D.blocks device.new ≡ D.blocks device.old }
         ensures count { CountsAtMost (2 * asked_by (view_of self.old) event.entry) (D.reads device.old) (D.reads device.new) }
     {

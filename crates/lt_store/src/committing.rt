@@ -4,7 +4,8 @@ ghost use Rattle.std.specs.Prelude.{◌≡◌, ◌≤◌, ◌<◌, true, false, 
 ghost use Rattle.lt_terms.specs.Causes.{HasCause};
 ghost use Rattle.lt_device.specs.Moments.{Leaves};
 ghost use Rattle.lt_language.specs.Machine.{State};
-ghost use Rattle.lt_store.specs.Open.{IsOpen, IsRooted, blocks_of, state_of};
+ghost use Rattle.lt_store.specs.Open.{IsOpen, blocks_of, state_of};
+ghost use Rattle.lt_store.specs.Promise.{IsRooted};
 ghost use Rattle.lt_store.specs.Going.{Goes, Survives};
 ghost use Rattle.lt_store.specs.View.{view_of};
 ghost use Rattle.lt_store.specs.Committing.{StandsForEither, committed};

@@ -1,8 +1,8 @@
 //! What a store tells of itself in numbers.
 
 ghost use Rattle.std.specs.Prelude.{◌≡◌, ◌+◌, ◌≤◌, true};
-ghost use Rattle.lt_alloc.specs.Extents.{free_count};
-ghost use Rattle.lt_format.specs.Trie.{table_total};
+ghost use Rattle.lt_store.specs.Counts.{stat_of};
+ghost use Rattle.lt_store.specs.View.{view_of};
 
 use crate::store::Store;
 use lt_device::Device;
@@ -21,12 +21,7 @@ impl Store {
     /// The numbers of the store and of its device at this moment.
     pub fn stat<D: Device>(&self, device: &D) -> Stat
         requires { self.now.is_up ≡ true }
-        ensures stat { result ≡ record {
-          writes = self.now.writes;
-          reads = D.reads device.now;
-          tables = table_total self.now.manifest.manifest.trie;
-          free = free_count self.now.extents;
-        } }
+        ensures stat { result ≡ stat_of (view_of self.now) (D.reads device.now) }
         ensures within { result.tables + result.free ≤ self.now.manifest.manifest.header.extents }
     {
         Stat {

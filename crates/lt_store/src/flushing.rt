@@ -18,7 +18,8 @@ ghost use Rattle.lt_alloc.specs.declared.extents.Short.{Short};
 ghost use Rattle.lt_alloc.specs.Extents.{is_free};
 ghost use Rattle.lt_terms.specs.Numbers.{is_in};
 ghost use Rattle.lt_store.specs.Kept.{IsKept};
-ghost use Rattle.lt_store.specs.Open.{IsOpen, IsRooted, blocks_of, extents_of};
+ghost use Rattle.lt_store.specs.Open.{SameRegions, IsOpen, blocks_of, extents_of};
+ghost use Rattle.lt_store.specs.Promise.{IsRooted};
 ghost use Rattle.lt_store.specs.View.{view_of};
 
 use crate::building::build_tables;
@@ -58,8 +59,7 @@ impl Store {
         ensures up { (self.new.is_up ≡ false) ↔ IsErrOf result WriteFault.Device }
         ensures writes { self.new.writes ≡ self.old.writes }
         ensures undamaged { (b : ℕ) → IsErrOf result (WriteFault.Damaged b) → ⊥ }
-        ensures blocks { self.new.is_up ≡ true → blocks_of (view_of self.new) ≡ blocks_of (view_of self.old) }
-        ensures extents { self.new.is_up ≡ true → extents_of (view_of self.new) ≡ extents_of (view_of self.old) }
+        ensures regions { self.new.is_up ≡ true → SameRegions (view_of self.old) (view_of self.new) }
         ensures size { D.blocks device.new ≡ D.blocks device.old }
         ensures count { D.reads device.new ≡ D.reads device.old }
         ensures later { D.faults device.old ≤ D.faults device.new }

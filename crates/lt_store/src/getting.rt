@@ -17,6 +17,7 @@ ghost use Rattle.lt_tables.specs.Table.{blocks_from, IsPlaced};
 ghost use Rattle.lt_format.specs.Layout.{extent_block};
 ghost use Rattle.lt_htable.specs.Reading.{IsNoBucket};
 ghost use Rattle.lt_image.specs.Versions.{pile_items};
+ghost use Rattle.lt_store.specs.Promise.{StopsGet};
 ghost use Rattle.lt_store.specs.Getting.{Answers, AnswersSeen, KeepsPage, KeepsUnless, IsAnswer, IsBucketOf, IsReadable, IsSeen, HoldsKey, asked, asked_from, may_hold, seen, seen_in, seen_of, with_value, version_of, page_with, value_len};
 ghost use Rattle.lt_store.specs.Open.{IsOpen, blocks_of, root_pile, state_of};
 ghost use Rattle.lt_store.specs.View.{view_of};
@@ -69,8 +70,8 @@ impl Store {
         ensures short { (n : ℕ) → result ≡ Ok (Some n) → n ≤ 3000 }
         ensures page { KeepsPage result out.old out.new }
         ensures unchanged { view_of self.new ≡ view_of self.old }
-        ensures damaged { (b : ℕ) → IsErrOf result (LookFault.Damaged b) → IsNoBucket (D.state device.old).shown b }
-        ensures damaged_block { (b : ℕ) → IsErrOf result (LookFault.Damaged b) → IsBucketOf (view_of self.old).named.geometry (root_pile (view_of self.old).named.manifest.trie) b }
+        ensures damaged { (b : ℕ) → IsErrOf result (LookFault.Damaged b)
+            → StopsGet (view_of self.old).named (D.state device.old).shown key.now b }
         ensures cause { IsErrOf result LookFault.Device → Rose (D.faults device.old) (D.faults device.new) }
         ensures later { D.faults device.old ≤ D.faults device.new }
         ensures state { D.state device.new ≡ D.state device.old }
@@ -116,7 +117,7 @@ fn search<D: Device>(
     ensures answer { (image : Image) → (D.state device.old).shown ≡ Some image
         → AllByRecursion (IsReadable geometry.now filters.now image key.now) tables.now
         → IsAnswer (newest_of key.now (pile_items geometry.now image tables.now)) result out.old out.new }
-    ensures seen { (image : Image) → (D.state device.old).shown ≡ Some image → IsSeen (seen geometry.now filters.now image key.now tables.now) result out.old out.new }
+    ensures seen { (image : Image) → (D.state device.old).shown ≡ Some image → IsSeen (seen geometry.now (may_hold filters.now key.now) image key.now tables.now) result out.old out.new }
     ensures short { IfOk result (λ version. ForSome (value_len version) (λ n. n ≤ 3000)) }
     ensures page { KeepsUnless result out.old out.new }
     ensures damaged { (b : ℕ) → IsErrOf result (LookFault.Damaged b) → IsNoBucket (D.state device.old).shown b }

@@ -8,9 +8,11 @@ ghost use Rattle.lt_device.specs.State as told;
 ghost use Rattle.lt_language.specs.Machine.{State, nothing_yet};
 ghost use Rattle.lt_format.specs.declared.geometry.Geometry.{Geometry};
 ghost use Rattle.lt_image.specs.Standing.{Stands, after_writes};
+ghost use Rattle.lt_store.specs.Getting.{seen_of, seen_on};
 ghost use Rattle.lt_store.specs.Going.{Goes, Survives};
-ghost use Rattle.lt_store.specs.Making.{IsFresh};
-ghost use Rattle.lt_store.specs.Open.{IsOpen, IsRooted, Rests, StoreView, state_of};
+ghost use Rattle.lt_store.specs.Promise.{IsFresh, IsRooted, Rests};
+ghost use Rattle.lt_store.specs.Open.{IsOpen, StoreView, state_of};
+ghost use Rattle.lt_store.specs.Reading.{Reads};
 
 /// Nothing happened; and a call that went on, or failed, behind those that went on.
 pub fn goes_compose()
@@ -28,5 +30,6 @@ pub fn open_rests()
     ensures opened { (v : StoreView) (d : State) (s : told.State) → IsOpen v d s → Rests d s }
     ensures rooted { (v : StoreView) (d : State) (s : told.State) → IsOpen v d s → (left : Image) → MayLeave s left → IsRooted left }
     ensures crashed { (d : State) (s : told.State) (image : Image) → s.shown ≡ Some image → MayLeave s image → UnsyncedIn (λ _. ⊥) s → Stands image d → IsRooted image → Rests d s }
+    ensures seen { (v : StoreView) (image : Image) (r : Reads v image) (key : List ℕ) → seen_of v image key ≡ seen_on r.opened image key }
     ensures fresh { (g : Geometry) (extents : ℕ) (s : told.State) → IsFresh g extents s → Rests nothing_yet s }
 {}

@@ -8,7 +8,8 @@ ghost use Rattle.lt_device.specs.Moments.{ConfinedTo};
 ghost use Rattle.lt_device.specs.State.{IsFit, synced, written};
 ghost use Rattle.lt_format.specs.Layout.{is_geometry, blocks_needed, superblock, gate_page};
 ghost use Rattle.lt_format.specs.Snapshot.{extents_stand};
-ghost use Rattle.lt_store.specs.Making.{InFresh, HasRegions, IsFresh, IsOccupied, IsVacant};
+ghost use Rattle.lt_store.specs.Making.{InFresh, HasRegions};
+ghost use Rattle.lt_store.specs.Promise.{IsFresh, IsOccupied, IsVacant};
 
 use super::faults::InitFault;
 use lt_device::Device;

@@ -18,8 +18,8 @@ ghost use Rattle.lt_format.specs.Snapshot.{IsManifest};
 ghost use Rattle.lt_format.specs.Trie.{named};
 ghost use Rattle.lt_redo.specs.Opening.{HasItems};
 ghost use Rattle.lt_image.specs.Opening.{open_image};
-ghost use Rattle.lt_store.specs.Damage.{StopsOpening};
-ghost use Rattle.lt_store.specs.Open.{AtRest, IsOpen, Rests, root_pile, blocks_of, extents_of};
+ghost use Rattle.lt_store.specs.Promise.{StopsOpening, AtRest, Rests};
+ghost use Rattle.lt_store.specs.Open.{IsOpen, root_pile, blocks_of, extents_of};
 ghost use Rattle.lt_store.specs.Reading.{Reads, KeepsFilters, IsBelowExtents, Assembles, log_at};
 ghost use Rattle.lt_store.specs.View.{view_of};
 
@@ -47,8 +47,8 @@ impl Store {
     /// Opens the store of a device. It writes nothing.
     ///
     /// `Damaged` is the first block that does not stand, of the superblock, the manifest and the log.
-    /// It reads the superblock, the snapshot and the edits of the manifest, the gates and the groups of
-    /// the log, and the filter block of each table of the root.
+    /// It reads the superblock, the selector and the snapshot of the manifest, the gates and the groups
+    /// of the log, and the filter block of each table of the root.
     pub fn open<D: Device>(alloc: Global, device: &mut D) -> Result<Store, OpenFault>
         ensures up { IfOk result (λ store. store.is_up ≡ true) }
         ensures pending { IfOk result (λ store. (view_of store).log.pending ≡ []) }
@@ -67,9 +67,9 @@ impl Store {
         ensures later { D.faults device.old ≤ D.faults device.new }
         ensures state { D.state device.new ≡ D.state device.old }
         ensures size { D.blocks device.new ≡ D.blocks device.old }
-        ensures count { IfOk result (λ store. CountsAtMost (435 + 2 * (view_of store).named.geometry.slots + length (root_pile (view_of store).named.manifest.trie)) (D.reads device.old) (D.reads device.new)) }
+        ensures count { IfOk result (λ store. CountsAtMost (307 + 2 * (view_of store).named.geometry.slots + length (root_pile (view_of store).named.manifest.trie)) (D.reads device.old) (D.reads device.new)) }
         // The most slots and the most extents that there may be.
-        ensures count_at_most { CountsAtMost (435 + 2 * 512 + 65536) (D.reads device.old) (D.reads device.new) }
+        ensures count_at_most { CountsAtMost (307 + 2 * 512 + 65536) (D.reads device.old) (D.reads device.new) }
     {
         let (geometry, manifest) = read_manifest(alloc, device)?;
         let (log, items) = read_log(alloc, device, &geometry, &manifest)?;
@@ -129,7 +129,7 @@ fn read_manifest<D: Device>(
     ensures later { D.faults device.old ≤ D.faults device.new }
     ensures state { D.state device.new ≡ D.state device.old }
     ensures size { D.blocks device.new ≡ D.blocks device.old }
-    ensures count { CountsAtMost 435 (D.reads device.old) (D.reads device.new) }
+    ensures count { CountsAtMost 307 (D.reads device.old) (D.reads device.new) }
 {
     let geometry = read_geometry(alloc, device)?;
     let manifest = Manifest::open(alloc, device, &geometry)?;

@@ -9,10 +9,13 @@ ghost use Rattle.lt_device.specs.Moments.{Leaves, MayLeave};
 ghost use Rattle.lt_item.specs.Views.{item_of};
 ghost use Rattle.lt_language.specs.Machine.{State, most_writes};
 ghost use Rattle.lt_format.specs.Log.{group_room};
+ghost use Rattle.lt_store.specs.Committing.{StandsForEither};
 ghost use Rattle.lt_store.specs.Flushing.{IsFlushed, Stays};
-ghost use Rattle.lt_store.specs.Going.{Goes, Survives, appended};
-ghost use Rattle.lt_store.specs.Open.{IsOpen, IsRooted, StoreView, blocks_of, extents_of};
-ghost use Rattle.lt_store.specs.Taking.{accepted_by, is_due, readied, IsFull, IsFullImage};
+ghost use Rattle.lt_store.specs.Going.{Goes, appended};
+ghost use Rattle.lt_store.specs.Open.{SameRegions, IsOpen, StoreView, blocks_of, state_of};
+ghost use Rattle.lt_store.specs.Promise.{IsRooted};
+ghost use Rattle.lt_image.specs.Counts.{IsFullImage};
+ghost use Rattle.lt_store.specs.Taking.{accepted_by, is_due, readied, IsFull};
 ghost use Rattle.lt_store.specs.View.{view_of};
 
 use crate::faults::WriteFault;
@@ -59,8 +62,8 @@ impl Store {
             → Goes (view_of self.old) (accepted_by (put_of key.now value.now) taken) (view_of self.new) durable (D.state device.old) (D.state device.new)) }
         ensures refused { IsErrOf result WriteFault.NoMemory → (durable : State) → IsOpen (view_of self.old) durable (D.state device.old)
             → Goes (view_of self.old) [] (view_of self.new) durable (D.state device.old) (D.state device.new) }
-        ensures broken { IsErrOf result WriteFault.Device → (durable : State) → IsOpen (view_of self.old) durable (D.state device.old)
-            → Survives (view_of self.old) [] durable (D.state device.old) (D.state device.new) }
+        ensures whole { (durable : State) → IsOpen (view_of self.old) durable (D.state device.old)
+            → Leaves (StandsForEither durable (state_of (view_of self.old) durable)) (D.state device.old) (D.state device.new) }
         ensures rooted { (durable : State) → IsOpen (view_of self.old) durable (D.state device.old) → Leaves IsRooted (D.state device.old) (D.state device.new) }
         ensures limit { (result ≡ Ok Taken.Limit) ↔ ((view_of self.old).writes ≡ most_writes) }
         ensures full { (needed free : ℕ) → result ≡ Ok (Taken.Full needed free) → IsFull (view_of self.new) needed free }
@@ -84,8 +87,7 @@ impl Store {
         ensures same_number { IsErrOf result WriteFault.NoMemory → (view_of self.new).writes ≡ (view_of self.old).writes }
         ensures undamaged { (b : ℕ) → IsErrOf result (WriteFault.Damaged b) → ⊥ }
         ensures up { (self.new.is_up ≡ false) ↔ IsErrOf result WriteFault.Device }
-        ensures blocks { self.new.is_up ≡ true → blocks_of (view_of self.new) ≡ blocks_of (view_of self.old) }
-        ensures extents { self.new.is_up ≡ true → extents_of (view_of self.new) ≡ extents_of (view_of self.old) }
+        ensures regions { self.new.is_up ≡ true → SameRegions (view_of self.old) (view_of self.new) }
         ensures size { D.blocks device.new ≡ D.blocks device.old }
         ensures count { D.reads device.new ≡ D.reads device.old }
         ensures later { D.faults device.old ≤ D.faults device.new }
@@ -113,8 +115,8 @@ impl Store {
             → Goes (view_of self.old) (accepted_by (delete_of key.now) taken) (view_of self.new) durable (D.state device.old) (D.state device.new)) }
         ensures refused { IsErrOf result WriteFault.NoMemory → (durable : State) → IsOpen (view_of self.old) durable (D.state device.old)
             → Goes (view_of self.old) [] (view_of self.new) durable (D.state device.old) (D.state device.new) }
-        ensures broken { IsErrOf result WriteFault.Device → (durable : State) → IsOpen (view_of self.old) durable (D.state device.old)
-            → Survives (view_of self.old) [] durable (D.state device.old) (D.state device.new) }
+        ensures whole { (durable : State) → IsOpen (view_of self.old) durable (D.state device.old)
+            → Leaves (StandsForEither durable (state_of (view_of self.old) durable)) (D.state device.old) (D.state device.new) }
         ensures rooted { (durable : State) → IsOpen (view_of self.old) durable (D.state device.old) → Leaves IsRooted (D.state device.old) (D.state device.new) }
         ensures limit { (result ≡ Ok Taken.Limit) ↔ ((view_of self.old).writes ≡ most_writes) }
         ensures full { (needed free : ℕ) → result ≡ Ok (Taken.Full needed free) → IsFull (view_of self.new) needed free }
@@ -138,8 +140,7 @@ impl Store {
         ensures same_number { IsErrOf result WriteFault.NoMemory → (view_of self.new).writes ≡ (view_of self.old).writes }
         ensures undamaged { (b : ℕ) → IsErrOf result (WriteFault.Damaged b) → ⊥ }
         ensures up { (self.new.is_up ≡ false) ↔ IsErrOf result WriteFault.Device }
-        ensures blocks { self.new.is_up ≡ true → blocks_of (view_of self.new) ≡ blocks_of (view_of self.old) }
-        ensures extents { self.new.is_up ≡ true → extents_of (view_of self.new) ≡ extents_of (view_of self.old) }
+        ensures regions { self.new.is_up ≡ true → SameRegions (view_of self.old) (view_of self.new) }
         ensures size { D.blocks device.new ≡ D.blocks device.old }
         ensures count { D.reads device.new ≡ D.reads device.old }
         ensures later { D.faults device.old ≤ D.faults device.new }
@@ -166,8 +167,8 @@ impl Store {
             → Goes (view_of self.old) (accepted_by (item_of item.now) taken) (view_of self.new) durable (D.state device.old) (D.state device.new)) }
         ensures refused { IsErrOf result WriteFault.NoMemory → (durable : State) → IsOpen (view_of self.old) durable (D.state device.old)
             → Goes (view_of self.old) [] (view_of self.new) durable (D.state device.old) (D.state device.new) }
-        ensures broken { IsErrOf result WriteFault.Device → (durable : State) → IsOpen (view_of self.old) durable (D.state device.old)
-            → Survives (view_of self.old) [] durable (D.state device.old) (D.state device.new) }
+        ensures whole { (durable : State) → IsOpen (view_of self.old) durable (D.state device.old)
+            → Leaves (StandsForEither durable (state_of (view_of self.old) durable)) (D.state device.old) (D.state device.new) }
         ensures rooted { (durable : State) → IsOpen (view_of self.old) durable (D.state device.old) → Leaves IsRooted (D.state device.old) (D.state device.new) }
         ensures limit { (result ≡ Ok Taken.Limit) ↔ ((view_of self.old).writes ≡ most_writes) }
         ensures full { (needed free : ℕ) → result ≡ Ok (Taken.Full needed free) → IsFull (view_of self.new) needed free }
@@ -191,8 +192,7 @@ impl Store {
         ensures same_number { IsErrOf result WriteFault.NoMemory → (view_of self.new).writes ≡ (view_of self.old).writes }
         ensures undamaged { (b : ℕ) → IsErrOf result (WriteFault.Damaged b) → ⊥ }
         ensures up { (self.new.is_up ≡ false) ↔ IsErrOf result WriteFault.Device }
-        ensures blocks { self.new.is_up ≡ true → blocks_of (view_of self.new) ≡ blocks_of (view_of self.old) }
-        ensures extents { self.new.is_up ≡ true → extents_of (view_of self.new) ≡ extents_of (view_of self.old) }
+        ensures regions { self.new.is_up ≡ true → SameRegions (view_of self.old) (view_of self.new) }
         ensures size { D.blocks device.new ≡ D.blocks device.old }
         ensures count { D.reads device.new ≡ D.reads device.old }
         ensures later { D.faults device.old ≤ D.faults device.new }
@@ -222,8 +222,8 @@ impl Store {
         ensures small { OnOk result (0 < length self.new.log.pending → total_cost (view_of self.new).memory ≤ 200000) }
         ensures goes { OnOk result ((durable : State) → IsOpen (view_of self.old) durable (D.state device.old)
             → Goes (view_of self.old) [] (view_of self.new) durable (D.state device.old) (D.state device.new)) }
-        ensures broken { OnErr result ((durable : State) → IsOpen (view_of self.old) durable (D.state device.old)
-            → Survives (view_of self.old) [] durable (D.state device.old) (D.state device.new)) }
+        ensures whole { (durable : State) → IsOpen (view_of self.old) durable (D.state device.old)
+            → Leaves (StandsForEither durable (state_of (view_of self.old) durable)) (D.state device.old) (D.state device.new) }
         ensures rooted { (durable : State) → IsOpen (view_of self.old) durable (D.state device.old) → Leaves IsRooted (D.state device.old) (D.state device.new) }
         ensures ready { OnOk result (view_of self.new ≡ readied (view_of self.old) cost) }
         ensures idle { self.old.log.pending ≡ [] → device.new ≡ device.old }
@@ -267,8 +267,7 @@ impl Store {
         ensures up { (self.new.is_up ≡ false) ↔ IsErrOf result WriteFault.Device }
         ensures writes { self.new.writes ≡ self.old.writes }
         ensures undamaged { (b : ℕ) → IsErrOf result (WriteFault.Damaged b) → ⊥ }
-        ensures blocks { self.new.is_up ≡ true → blocks_of (view_of self.new) ≡ blocks_of (view_of self.old) }
-        ensures extents { self.new.is_up ≡ true → extents_of (view_of self.new) ≡ extents_of (view_of self.old) }
+        ensures regions { self.new.is_up ≡ true → SameRegions (view_of self.old) (view_of self.new) }
         ensures size { D.blocks device.new ≡ D.blocks device.old }
         ensures count { D.reads device.new ≡ D.reads device.old }
         ensures later { D.faults device.old ≤ D.faults device.new }

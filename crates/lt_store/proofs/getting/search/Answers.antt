@@ -1,4 +1,4 @@
-use Rattle.std.proofs.Common.{◌≡◌, ℕ, ◌+◌, ◌-◌, ◌*◌, ◌<◌, ◌≤◌, sym, ap, subst, ◌∙◌, Bool, true, false, None, Err, List, length, get_or, drop, arith}
+use Rattle.std.proofs.Common.{◌≡◌, ℕ, ◌+◌, ◌-◌, ◌*◌, ◌<◌, ◌≤◌, sym, ap, subst, ◌∙◌, Bool, true, false, None, Option, Result, Ok, Err, List, length, get_or, drop, arith}
 use Rattle.std.specs.Prelude.{count_by}
 use Rattle.std.specs.List.{flat_map}
 use Rattle.std.specs.Option.{is_some}
@@ -8,7 +8,8 @@ use Rattle.lt_device.specs.Reads.{CountsAtMost}
 use Rattle.lt_terms.specs.Items.{Item}
 use Rattle.lt_tables.specs.Merge.{newest, newest_of}
 use Rattle.lt_image.specs.Versions.{items_at, pile_items}
-use Rattle.lt_store.specs.Getting.{IsAnswer, IsReadable, may_hold}
+use Rattle.lt_store.specs.Getting.{IsAnswer, IsReadable, IsSeen, may_hold, seen}
+use Rattle.lt_htable.specs.declared.faults.LookFault.{LookFault}
 use Rattle.lt_store.proofs.PileLaws.{all_at, placed-at, pile-found, pile-none, pile-skipped, same_page, answer-fault, held-before, count-behind, count-asked, count-passed, count-part, counts-more, counts-fewer}
 use Rattle.lt_store.proofs.SeenLaws.{fault-above, found-above, none-above, skipped-seen}
 use Rattle.lt_store.proofs.getting.search.Goals as goal
@@ -154,3 +155,11 @@ loop-i-preserved g c =
       count = counts-fewer _ _ _ _ so_far.count (let passed = subst (λ n. count_by p (drop n tables) ≤ count_by p (drop j tables)) step (count-passed p tables j below) in omega (arith, passed));
       faults = so_far.faults;
     }
+
+pub returns-clause-seen : goal.returns-clause-seen
+returns-clause-seen g c = λ image told.
+    let so_far = c.loop-i.invariant in
+    let end : c.loop-i.i ≡ 0 = omega (arith, c.loop-i-test.false) in
+    let none : seen c.args.geometry.now (may_hold c.args.filters.now c.args.key.now) image c.args.key.now c.args.tables.now ≡ Ok None =
+    subst (λ n. seen c.args.geometry.now (may_hold c.args.filters.now c.args.key.now) image c.args.key.now (drop n c.args.tables.now) ≡ Ok None) end (so_far.sees image told) in
+    subst (λ (answer : Result (Option Item) LookFault). IsSeen answer (Ok None) c.args.out.now c.loop-i.out) (sym none) so_far.out

@@ -13,7 +13,7 @@ abbrev pub invariant-loop-i : goal.invariant-loop-i
 invariant-loop-i g l = record {
   none : (image : Image) → (g.D.Device.state l.fn.device).shown ≡ Some image → AllByRecursion (IsReadable l.geometry l.filters image l.key) l.tables
       → newest_of l.key (pile_items l.geometry image (drop l.i l.tables)) ≡ None;
-  sees : (image : Image) → (g.D.Device.state l.fn.device).shown ≡ Some image → seen l.geometry l.filters image l.key (drop l.i l.tables) ≡ Ok None;
+  sees : (image : Image) → (g.D.Device.state l.fn.device).shown ≡ Some image → seen l.geometry (may_hold l.filters l.key) image l.key (drop l.i l.tables) ≡ Ok None;
   out : l.out ≡ l.fn.out;
   state : g.D.Device.state l.device ≡ g.D.Device.state l.fn.device;
   size : g.D.Device.blocks l.device ≡ g.D.Device.blocks l.fn.device;

@@ -6,16 +6,21 @@ use Rattle.lt_store.specs.declared.counts.Stat.{Stat}
 use Rattle.lt_store.specs.declared.writing.Taken.TheVariants as taken
 use Rattle.lt_terms.specs.Items.{Item, item_cost, put_of, delete_of}
 use Rattle.lt_store.specs.Acting.{command_of, write_of}
+use Rattle.lt_device.specs.State as told
+use Rattle.lt_image.specs.Counts.{HasCounts}
+use Rattle.lt_store.specs.Promise.{StopsGet}
 use Rattle.lt_store.specs.Flushing.{IsFlushed}
 use Rattle.lt_store.specs.Getting.{AnswersSeen, seen_of}
 use Rattle.lt_store.specs.Going.{appended}
 use Rattle.lt_store.specs.Taking.{is_due, readied}
 use Rattle.lt_store.specs.Open.{StoreView, state_of}
 use Rattle.lt_store.specs.View.{view_of}
-use Rattle.lt_store.proofs.ActLaws.{asks-goes, asks-rooted, stat-step, put-step, delete-step, refused-goes, refused-survives, same-item, same-key, same-taken, tells-fault, limits}
+use Rattle.lt_store.proofs.ActLaws.{asks-goes, asks-rooted, stat-step, put-step, delete-step, refused-goes, same-item, same-key, same-stat, same-taken, tells-fault, tells-none, tells-value, limits}
 use Rattle.lt_store.proofs.AnswerLaws.{all-writes}
+use Rattle.lt_store.proofs.FullLaws.{image-counts}
 use Rattle.lt_store.proofs.GoLaws.{goes-none}
 use Rattle.lt_store.proofs.RootedLaws.{rooted-none}
+use Rattle.lt_store.proofs.WholeLaws.{whole-asked, whole-none, whole-survives}
 use Rattle.lt_store.proofs.store.Store.act.Goals as goal
 use Rattle.lt_terms.proofs.CauseLaws.{OnErr-always}
 
@@ -27,7 +32,7 @@ returns-in_err-put-in-Put-clause-goes_on g c = OnErr-always c.from_residual.resu
 
 pub returns-in_err-put-in-Put-clause-broken : goal.returns-in_err-put-in-Put-clause-broken
 returns-in_err-put-in-Put-clause-broken g c = OnErr-always c.from_residual.result (λ durable opened.
-    refused-survives c.put.new.self.is_up c.put.result c.in_err-put-in-Put.field-0.0 c.in_err-put-in-Put.was c.put.ensures.up c.put.ensures.undamaged _ (λ fault. c.put.ensures.broken fault durable opened) (λ fault. (c.put.ensures.refused fault durable opened).survives))
+    whole-survives (view_of c.args.self.now) durable (g.D.Device.state c.args.device.now) (g.D.Device.state c.put.new.device) (c.put.ensures.whole durable opened))
 
 pub returns-in_ok-put-in-Put-clause-step : goal.returns-in_ok-put-in-Put-clause-step
 returns-in_ok-put-in-Put-clause-step g c = λ durable opened.
@@ -51,7 +56,7 @@ returns-in_err-delete-in-Delete-clause-goes_on g c = OnErr-always c.from_residua
 
 pub returns-in_err-delete-in-Delete-clause-broken : goal.returns-in_err-delete-in-Delete-clause-broken
 returns-in_err-delete-in-Delete-clause-broken g c = OnErr-always c.from_residual-in_err-delete-in-Delete.result (λ durable opened.
-    refused-survives c.delete.new.self.is_up c.delete.result c.in_err-delete-in-Delete.field-0.0 c.in_err-delete-in-Delete.was c.delete.ensures.up c.delete.ensures.undamaged _ (λ fault. c.delete.ensures.broken fault durable opened) (λ fault. (c.delete.ensures.refused fault durable opened).survives))
+    whole-survives (view_of c.args.self.now) durable (g.D.Device.state c.args.device.now) (g.D.Device.state c.delete.new.device) (c.delete.ensures.whole durable opened))
 
 pub returns-in_ok-delete-in-Delete-clause-step : goal.returns-in_ok-delete-in-Delete-clause-step
 returns-in_ok-delete-in-Delete-clause-step g c = λ durable opened.
@@ -101,14 +106,14 @@ returns-in-Some-clause-seen g c = λ key image is told.
     let v : StoreView = view_of c.args.self.now in
     let same : c.in-Get.key.now ≡ key = same-key _ _ (sym (ap command_of c.in-Get.is) ∙ is) in
     let was : c.get.result ≡ Ok (Some c.in-Some.len) = search rules in
-    subst (λ (k : List ℕ). AnswersSeen c.get.new.out (seen_of v image k) (Ok (Some c.in-Some.len))) same (rw was at (c.get.ensures.seen image told))
+    tells-value c.get.new.out (seen_of v image key) c.in-Some.len (subst (λ (k : List ℕ). AnswersSeen c.get.new.out (seen_of v image k) (Ok (Some c.in-Some.len))) same (rw was at (c.get.ensures.seen image told)))
 
 pub returns-in-None-clause-seen : goal.returns-in-None-clause-seen
 returns-in-None-clause-seen g c = λ key image is told.
     let v : StoreView = view_of c.args.self.now in
     let same : c.in-Get.key.now ≡ key = same-key _ _ (sym (ap command_of c.in-Get.is) ∙ is) in
     let was : c.get.result ≡ Ok None = search rules in
-    subst (λ (k : List ℕ). AnswersSeen c.get.new.out (seen_of v image k) (Ok None)) same (rw was at (c.get.ensures.seen image told))
+    tells-none c.get.new.out (seen_of v image key) (subst (λ (k : List ℕ). AnswersSeen c.get.new.out (seen_of v image k) (Ok None)) same (rw was at (c.get.ensures.seen image told)))
 
 -- ---- a stat
 
@@ -148,3 +153,31 @@ returns-in_ok-delete-in-Delete-clause-flushed g c = λ item is due ok durable op
     let same : delete_of c.in-Delete.key.now ≡ item = same-item _ _ (sym (ap write_of c.in-Delete.is) ∙ is) in
     subst (λ (i : Item). is_due (readied v (item_cost i)) ≡ true → (x : StoreView) × IsFlushed (readied v (item_cost i)) x (g.D.Device.state c.delete.new.device) × (view_of c.delete.new.self ≡ appended x i)) same
     (λ late. answer.ensures.flushed late (ap Ok (same-taken answer.field-0 taken.Ok ok)) durable opened) due
+
+pub returns-in_err-len-in-Get-clause-whole : goal.returns-in_err-len-in-Get-clause-whole
+returns-in_err-len-in-Get-clause-whole g c = λ durable opened. whole-asked (view_of c.args.self.now) durable (g.D.Device.state c.args.device.now) (g.D.Device.state c.get.new.device) c.get.ensures.state opened
+
+pub returns-in-Some-clause-whole : goal.returns-in-Some-clause-whole
+returns-in-Some-clause-whole g c = λ durable opened. whole-asked (view_of c.args.self.now) durable (g.D.Device.state c.args.device.now) (g.D.Device.state c.get.new.device) c.get.ensures.state opened
+
+pub returns-in-None-clause-whole : goal.returns-in-None-clause-whole
+returns-in-None-clause-whole g c = λ durable opened. whole-asked (view_of c.args.self.now) durable (g.D.Device.state c.args.device.now) (g.D.Device.state c.get.new.device) c.get.ensures.state opened
+
+pub returns-in-Stat-clause-whole : goal.returns-in-Stat-clause-whole
+returns-in-Stat-clause-whole g c = λ durable opened. whole-none (view_of c.args.self.now) durable (g.D.Device.state c.args.device.now) opened
+
+pub returns-in-Stat-clause-stat_images : goal.returns-in-Stat-clause-stat_images
+returns-in-Stat-clause-stat_images g c = λ s is durable opened left may.
+    let me = c.args.self.now in
+    let same : c.stat.result ≡ s = same-stat c.stat.result s is in
+    let counts = image-counts (view_of me) durable (g.D.Device.state c.args.device.now) (vec_len me.filters) opened (me.kept c.requires.up) left may in
+    subst (λ (t : Stat). HasCounts left t.tables t.free) (sym c.stat.ensures.stat ∙ same) counts
+
+pub returns-in_err-len-in-Get-clause-damaged : goal.returns-in_err-len-in-Get-clause-damaged
+returns-in_err-len-in-Get-clause-damaged g c = λ b is.
+    let was : IsErrOf c.get.result (Damaged b) = search rules in
+    record {
+      key = c.in-Get.key.now;
+      get = ap command_of c.in-Get.is;
+      stops = subst (λ (d : told.State). StopsGet c.args.self.now.manifest d.shown c.in-Get.key.now b) (sym c.get.ensures.state) (c.get.ensures.damaged b was);
+    }

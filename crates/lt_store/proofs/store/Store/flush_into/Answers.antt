@@ -8,7 +8,8 @@ use Rattle.lt_device.specs.Moments.{ConfinedTo, Leaves}
 use Rattle.lt_redo.specs.LogState.{LogState}
 use Rattle.lt_store.specs.Building.{InExtents, HasTable}
 use Rattle.lt_store.specs.Flushing.{Stays}
-use Rattle.lt_store.specs.Open.{IsOpen, IsRooted, StoreView}
+use Rattle.lt_store.specs.Open.{IsOpen, StoreView}
+use Rattle.lt_store.specs.Promise.{IsRooted}
 use Rattle.lt_store.specs.View.{view_of}
 use Rattle.lt_store.proofs.CommitLaws.{kept-fits}
 use Rattle.lt_store.proofs.FlushLaws.{Fits, KeepsOthers, cleared-fits, clearing-stays, cleared-open, with_kept, building-stays, built-open}

@@ -1,11 +1,14 @@
-use Rattle.std.proofs.Common.{sym, ap, subst, ◌∙◌, Ok, Err, Some, Option, Result, vec_len}
+use Rattle.std.proofs.Common.{rules, sym, ap, subst, ◌∙◌, Ok, Err, Some, Option, Result, vec_len}
 use Rattle.std.proofs.lemmas.Result.{err_from_is_err_and}
 use Rattle.lt_item.specs.Views.{item_of}
 use Rattle.lt_format.specs.Trie.{Trie, root, node_at}
 use Rattle.lt_htable.specs.declared.faults.LookFault.{LookFault}
 use Rattle.lt_terms.specs.Items.{Item}
-use Rattle.lt_store.specs.Getting.{AnswersSeen, seen_of, value_len}
-use Rattle.lt_store.specs.Open.{StoreView}
+use Rattle.std.specs.Prelude.{IsErrOf}
+use Rattle.lt_htable.specs.declared.faults.LookFault.TheVariants.{Damaged}
+use Rattle.lt_store.specs.Getting.{AnswersSeen, IsBucketOf, seen_of, value_len}
+use Rattle.lt_store.specs.Open.{StoreView, root_pile}
+use Rattle.lt_store.proofs.StopLaws.{pile-stops}
 use Rattle.lt_store.specs.View.{view_of}
 use Rattle.lt_store.proofs.AnswerLaws.{answer-memory, answer-pile, answer-fault, searched, stopped, counts-none, tables-within}
 use Rattle.lt_store.proofs.SeenLaws.{answers-fault, answers-seen, given-seen, memory-seen}
@@ -87,3 +90,11 @@ returns-clause-seen g c = λ image told.
           let at = answers-seen (seen_of v image c.args.key.now) w.in_ok-version-in-None.version c.args.out.now w.search.new.out answer in
           rw (w.out-is, c.value_len.ensures, w.version-is) at
     ]
+
+pub returns-in_err-version-in-None-clause-damaged : goal.returns-in_err-version-in-None-clause-damaged
+returns-in_err-version-in-None-clause-damaged g c = λ b is.
+    let s = c.args.self.now in
+    let was : IsErrOf c.search.result (Damaged b) = search rules in
+    let tables_are = c.pile-tables.ensures ∙ ap (λ (t : Trie). (node_at t root).tables) c.trie.ensures.nodes in
+    pile-stops s.manifest s.log s.memory s.extents (vec_len s.filters) s.writes (s.kept c.requires.up) _ c.args.key.now b (c.search.ensures.damaged b was)
+    (subst (λ h. IsBucketOf h (root_pile s.manifest.manifest.trie) b) s.geometry_is (subst (λ xs. IsBucketOf s.geometry xs b) tables_are (c.search.ensures.damaged_block b was)))

@@ -30,22 +30,22 @@ returns-in_err-log-clause-at_rest g c = λ s rest b is. rest-whole s (g.D.Device
 
 pub returns-in_err-filters-clause-count_at_most : goal.returns-in_err-filters-clause-count_at_most
 returns-in_err-filters-clause-count_at_most g c =
-    counts-more (435 + 2 * 512 + 65536)
-    (counts-more (435 + 2 * c.in_ok-geometry.geometry.slots) c.read_manifest.ensures.count c.read_log.ensures.count (omega arith))
+    counts-more (307 + 2 * 512 + 65536)
+    (counts-more (307 + 2 * c.in_ok-geometry.geometry.slots) c.read_manifest.ensures.count c.read_log.ensures.count (omega arith))
     c.root_filters.ensures.count
     (few-reads c.in_ok-geometry.geometry _ c.in_ok-geometry.manifest.manifest c.in_ok-geometry.ensures.valid c.in_ok-geometry.ensures.stands)
 
 pub returns-in_err-of-clause-count_at_most : goal.returns-in_err-of-clause-count_at_most
 returns-in_err-of-clause-count_at_most g c =
-    counts-more (435 + 2 * 512 + 65536)
-    (counts-more (435 + 2 * c.in_ok-geometry.geometry.slots) c.read_manifest.ensures.count c.read_log.ensures.count (omega arith))
+    counts-more (307 + 2 * 512 + 65536)
+    (counts-more (307 + 2 * c.in_ok-geometry.geometry.slots) c.read_manifest.ensures.count c.read_log.ensures.count (omega arith))
     c.root_filters.ensures.count
     (few-reads c.in_ok-geometry.geometry _ c.in_ok-geometry.manifest.manifest c.in_ok-geometry.ensures.valid c.in_ok-geometry.ensures.stands)
 
 pub returns-clause-count_at_most : goal.returns-clause-count_at_most
 returns-clause-count_at_most g c =
-    counts-more (435 + 2 * 512 + 65536)
-    (counts-more (435 + 2 * c.in_ok-geometry.geometry.slots) c.read_manifest.ensures.count c.read_log.ensures.count (omega arith))
+    counts-more (307 + 2 * 512 + 65536)
+    (counts-more (307 + 2 * c.in_ok-geometry.geometry.slots) c.read_manifest.ensures.count c.read_log.ensures.count (omega arith))
     c.root_filters.ensures.count
     (few-reads c.in_ok-geometry.geometry _ c.in_ok-geometry.manifest.manifest c.in_ok-geometry.ensures.valid c.in_ok-geometry.ensures.stands)
 

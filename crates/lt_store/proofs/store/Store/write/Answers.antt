@@ -5,11 +5,13 @@ use Rattle.lt_store.specs.declared.faults.WriteFault.TheVariants as faults
 use Rattle.lt_store.specs.Going.{Goes, appended}
 use Rattle.lt_store.specs.Flushing.{IsFlushed}
 use Rattle.lt_store.specs.Open.{StoreView}
-use Rattle.lt_store.specs.Taking.{IsFullImage, is_due, readied}
+use Rattle.lt_image.specs.Counts.{IsFullImage}
+use Rattle.lt_store.specs.Taking.{is_due, readied}
 use Rattle.lt_store.specs.View.{view_of}
-use Rattle.lt_store.proofs.GoLaws.{goes-none, goes-stays, goes-append, breaks}
+use Rattle.lt_store.proofs.GoLaws.{goes-none, goes-stays, goes-append}
 use Rattle.lt_store.proofs.RootedLaws.{rooted-none, rooted-joins}
 use Rattle.lt_store.proofs.TakeLaws.{full-alike}
+use Rattle.lt_store.proofs.WholeLaws.{whole-behind, whole-none}
 use Rattle.lt_store.proofs.store.Store.write.Goals as goal
 use Rattle.std.proofs.lemmas.Bool.{true_from_ne_false}
 
@@ -25,11 +27,29 @@ returns-in_err-flush_due-clause-refused g c = λ none d o.
     goes-stays v [] w (view_of c.flush_due.new.self) d (g.D.Device.state c.args.device.now) (g.D.Device.state c.commit_full.new.device) (g.D.Device.state c.flush_due.new.device) went
     (c.flush_due.ensures.pending_again (was none)) (c.flush_due.ensures.opened_again (was none) _ went.opened) (c.flush_due.ensures.stays _ went.opened)
 
-pub returns-in_err-flush_due-clause-broken : goal.returns-in_err-flush_due-clause-broken
-returns-in_err-flush_due-clause-broken g c = λ failed d o.
+pub returns-then-self-clause-whole : goal.returns-then-self-clause-whole
+returns-then-self-clause-whole g c = λ d o. whole-none (view_of c.args.self.now) d (g.D.Device.state c.args.device.now) o
+
+pub returns-in_err-flush_due-clause-whole : goal.returns-in_err-flush_due-clause-whole
+returns-in_err-flush_due-clause-whole g c = λ d o.
     let v : StoreView = view_of c.args.self.now in
+    let w : StoreView = view_of c.commit_full.new.self in
     let went = c.in_ok-commit_full.ensures.goes d o in
-    breaks v [] (view_of c.commit_full.new.self) d (g.D.Device.state c.args.device.now) (g.D.Device.state c.commit_full.new.device) (g.D.Device.state c.flush_due.new.device) went (c.flush_due.ensures.stays _ went.opened)
+    whole-behind v w c.cost.result d (g.D.Device.state c.args.device.now) (g.D.Device.state c.commit_full.new.device) (g.D.Device.state c.flush_due.new.device) went c.in_ok-commit_full.ensures.ready (c.commit_full.ensures.whole d o) (c.flush_due.ensures.stays _ went.opened)
+
+pub returns-in-None-clause-whole : goal.returns-in-None-clause-whole
+returns-in-None-clause-whole g c = λ d o.
+    let v : StoreView = view_of c.args.self.now in
+    let w : StoreView = view_of c.commit_full.new.self in
+    let went = c.in_ok-commit_full.ensures.goes d o in
+    whole-behind v w c.cost.result d (g.D.Device.state c.args.device.now) (g.D.Device.state c.commit_full.new.device) (g.D.Device.state c.flush_due.new.device) went c.in_ok-commit_full.ensures.ready (c.commit_full.ensures.whole d o) (c.flush_due.ensures.stays _ went.opened)
+
+pub returns-in-Some-clause-whole : goal.returns-in-Some-clause-whole
+returns-in-Some-clause-whole g c = λ d o.
+    let v : StoreView = view_of c.args.self.now in
+    let w : StoreView = view_of c.commit_full.new.self in
+    let went = c.in_ok-commit_full.ensures.goes d o in
+    whole-behind v w c.cost.result d (g.D.Device.state c.args.device.now) (g.D.Device.state c.commit_full.new.device) (g.D.Device.state c.flush_due.new.device) went c.in_ok-commit_full.ensures.ready (c.commit_full.ensures.whole d o) (c.flush_due.ensures.stays _ went.opened)
 
 pub returns-in-None-clause-taken : goal.returns-in-None-clause-taken
 returns-in-None-clause-taken g c = λ d o.

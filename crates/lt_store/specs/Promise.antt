@@ -1,0 +1,73 @@
+-- What a reader must believe of the store: devices at rest, devices without a store and with a fresh one, and blocks that do not stand.
+use Rattle.std.specs.Prelude.{◌≡◌, ◌≢◌, ℕ, ◌+◌, ◌<◌, List, Option, Some, None, Err, IsTrue}
+use Rattle.std.specs.Option.{ForSome}
+use Rattle.lt_terms.specs.Bytes.{Image, block_at, zero_block}
+use Rattle.lt_terms.specs.Numbers.{is_in}
+use Rattle.lt_device.specs.State as told
+use Rattle.lt_device.specs.Image.{SameOutside}
+use Rattle.lt_device.specs.Moments.{MayLeave}
+use Rattle.lt_language.specs.Machine.{State, nothing_yet}
+use Rattle.lt_tables.specs.Bucket.{bucket_of}
+use Rattle.lt_format.specs.declared.geometry.Geometry.{Geometry}
+use Rattle.lt_format.specs.Layout.{extent_block}
+use Rattle.lt_format.specs.Naming.{Named}
+use Rattle.lt_format.specs.Trie.{Trie, node_at, path}
+use Rattle.lt_manifest.specs.Moments.{Names}
+use Rattle.lt_manifest.specs.Opened.{fresh}
+use Rattle.lt_image.specs.OnPath.{has_only_root}
+use Rattle.lt_image.specs.Opening.{open_image}
+use Rattle.lt_image.specs.Standing.{Stands, is_free_block}
+
+-- A device that tells its blocks and what a crash may leave: each image that it may leave stands for this state, and they are what the device reads as but for blocks of extents that the manifest does not name.
+pub record AtRest (s : State) (device : told.State) : Type 0 where
+  pub image : Image
+  pub shown : device.shown ≡ Some image
+  pub tells : MayLeave device image
+  pub each : (left : Image) → MayLeave device left → Stands left s
+  pub named : Named
+  pub names : Names named image
+  pub agree : (left : Image) → MayLeave device left → SameOutside (λ n. IsTrue (is_free_block named n)) image left
+
+-- no node but the root has tables
+pub record IsRootOnly (trie : Trie) : Type 0 where
+  pub only : IsTrue (has_only_root trie)
+
+-- no node but the root of the image's manifest has tables
+pub record IsRooted (image : Image) : Type 0 where
+  pub named : Named
+  pub names : Names named image
+  pub root_only : IsRootOnly named.manifest.trie
+
+-- at rest, and no node but the root has tables
+pub record Rests (s : State) (device : told.State) : Type 0 where
+  pub rest : AtRest s device
+  pub root_only : IsRootOnly rest.named.manifest.trie
+
+-- where the device tells what it reads, nothing stands on block 0
+abbrev pub IsVacant : told.State → Type 0
+IsVacant device = ForSome device.shown (λ image. block_at image 0 ≡ zero_block)
+
+-- where the device tells what it reads, something stands on block 0
+abbrev pub IsOccupied : told.State → Type 0
+IsOccupied device = ForSome device.shown (λ image. block_at image 0 ≢ zero_block)
+
+-- the device is at rest for the empty map and no writes, with the manifest of a fresh store
+pub record IsFresh (g : Geometry) (extents : ℕ) (device : told.State) : Type 0 where
+  pub rest : AtRest nothing_yet device
+  pub named : rest.named ≡ fresh g extents
+
+-- opening what the device reads as stops at this block
+abbrev pub StopsOpening : told.State → ℕ → Type 0
+StopsOpening device b = ForSome device.shown (λ image. open_image image ≡ Err b)
+
+-- A get of the key stops at this block: it is the block of a bucket of a table that the manifest names on the key's path, and where the device tells what it reads, the page there spells no bucket.
+pub record StopsGet (named : Named) (shown : Option Image) (key : List ℕ) (block : ℕ) : Type 0 where
+  pub level : ℕ
+  pub deep : level < named.geometry.levels
+  pub extent : ℕ
+  pub on_path : IsTrue (is_in extent (node_at named.manifest.trie (path key level)).tables)
+  pub within : extent < named.manifest.header.extents
+  pub column : ℕ
+  pub in_buckets : column < 64
+  pub is : block ≡ extent_block named.geometry extent + column
+  pub damaged : ForSome shown (λ image. bucket_of (block_at image block) ≡ None)
