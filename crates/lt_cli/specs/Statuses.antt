@@ -3,7 +3,8 @@ use Rattle.std.specs.Prelude.{ℕ}
 use Rattle.lt_serve.specs.declared.served.Served.{Served}
 use Rattle.lt_serve.specs.declared.served.Served.TheVariants as served
 use Rattle.lt_cli.specs.declared.status.Status.{Status}
-use Rattle.lt_cli.specs.declared.status.Status.TheVariants.{Done, Words, SourceFault, SinkFault, DeviceFault, Damaged, Refused, NoMemory, Turns}
+use Rattle.lt_cli.specs.declared.status.Status.TheVariants.{Done, Words, SourceFault, SinkFault, DeviceFault}
+use Rattle.lt_cli.specs.declared.status.Status.TheVariants.{Damaged, Refused, NoMemory, Turns}
 
 -- the number of a status
 abbrev pub code_of : Status → ℕ

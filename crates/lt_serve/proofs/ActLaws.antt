@@ -23,7 +23,8 @@ use Rattle.lt_store.specs.declared.faults.WriteFault.TheVariants as faults
 use Rattle.lt_store.specs.declared.writing.Taken.TheVariants as answer
 use Rattle.lt_store.specs.Acting.{IsStep, accepted_as, command_of, only_asks, reply_of, write_of}
 use Rattle.lt_store.specs.Going.{Goes, Survives}
-use Rattle.lt_store.specs.Open.{IsOpen, IsRooted, Rests, StoreView, extents_of, state_of}
+use Rattle.lt_store.specs.Open.{IsOpen, StoreView, extents_of, state_of}
+use Rattle.lt_store.specs.Promise.{IsRooted, Rests}
 use Rattle.lt_store.proofs.GoLaws.{goes-none, open-rests}
 use Rattle.lt_store.proofs.RootedLaws.{rooted-none}
 use Rattle.lt_serve.specs.Acting.{Answers, Lost}

@@ -17,7 +17,8 @@ use Rattle.lt_language.specs.Machine.{State}
 use Rattle.lt_language.specs.Replies as replies
 use Rattle.lt_language.specs.Replies.{Reply, text, texts}
 use Rattle.lt_language.proofs.LineLaws.{split_lines-append}
-use Rattle.lt_store.specs.Open.{StoreView, IsOpen, Rests}
+use Rattle.lt_store.specs.Open.{StoreView, IsOpen}
+use Rattle.lt_store.specs.Promise.{Rests}
 use Rattle.lt_store.proofs.GoLaws.{open-rests}
 use Rattle.lt_serve.specs.declared.served.Served.{Served}
 use Rattle.lt_serve.specs.declared.served.Served.TheVariants as served

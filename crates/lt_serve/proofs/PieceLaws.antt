@@ -20,7 +20,8 @@ use Rattle.lt_language.specs.Machine.{State}
 use Rattle.lt_language.specs.Replies.{Reply, texts}
 use Rattle.lt_line.specs.Held.{HeldLine, kept_of}
 use Rattle.lt_line.specs.Waiting.{Waiting, nothing_waits}
-use Rattle.lt_store.specs.Open.{StoreView, IsOpen, IsRooted, Rests}
+use Rattle.lt_store.specs.Open.{StoreView, IsOpen}
+use Rattle.lt_store.specs.Promise.{IsRooted, Rests}
 use Rattle.lt_store.proofs.GoLaws.{open-rests}
 use Rattle.lt_store.proofs.RootedLaws.{rooted-joins}
 use Rattle.lt_serve.specs.declared.faults.RoundFault.{RoundFault}

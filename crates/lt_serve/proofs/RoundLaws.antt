@@ -17,7 +17,8 @@ use Rattle.lt_line.specs.Held.{HeldLine, kept_of}
 use Rattle.lt_line.specs.Waiting.{Waiting, all_settled}
 use Rattle.lt_line.proofs.HeldLaws.{kept_of-append, kept_of-none}
 use Rattle.lt_store.specs.Going.{Goes, Survives}
-use Rattle.lt_store.specs.Open.{IsOpen, IsRooted, Rests, StoreView, extents_of, state_of}
+use Rattle.lt_store.specs.Open.{IsOpen, StoreView, extents_of, state_of}
+use Rattle.lt_store.specs.Promise.{IsRooted, Rests}
 use Rattle.lt_store.proofs.GoLaws.{goes-none, goes-behind, breaks-behind, goes-state}
 use Rattle.lt_store.proofs.RootedLaws.{rooted-joins, rooted-none}
 use Rattle.lt_serve.specs.declared.faults.RoundFault.{RoundFault}

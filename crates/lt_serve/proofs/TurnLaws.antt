@@ -21,8 +21,8 @@ use Rattle.lt_line.specs.Waiting.{Waiting, all_settled, nothing_waits}
 use Rattle.lt_line.proofs.HeldLaws.{kept_of-none, kept_of-nothing}
 use Rattle.lt_layout.specs.declared.fault.OpenFault.{OpenFault}
 use Rattle.lt_layout.specs.declared.fault.OpenFault.TheVariants as opens
-use Rattle.lt_store.specs.Damage.{StopsOpening}
-use Rattle.lt_store.specs.Open.{StoreView, IsOpen, Rests}
+use Rattle.lt_store.specs.Promise.{StopsOpening, Rests}
+use Rattle.lt_store.specs.Open.{StoreView, IsOpen}
 use Rattle.lt_store.proofs.RootedLaws.{rests-rooted, rooted-none}
 use Rattle.lt_serve.specs.declared.served.Served.{Served}
 use Rattle.lt_serve.specs.declared.served.Served.TheVariants as served

@@ -8,4 +8,5 @@ pub mod Rounds
 pub mod Runs
 pub mod Sending
 pub mod Serving
+pub mod Sizes
 pub mod View

@@ -9,7 +9,8 @@ use Rattle.lt_language.specs.Replies.{Reply, text}
 use Rattle.lt_image.specs.Standing.{after_writes}
 
 -- in a store of e extents the commands were answered so from this state on, and these are the writes that were taken
-pub record Runs (e : ℕ) (start : State) (commands : List Command) (replies : List Reply) (writes : List Item) : Type 0 where
+pub record Runs (e : ℕ) (start : State) (commands : List Command) (replies : List Reply)
+    (writes : List Item) : Type 0 where
   pub run : Run e start commands replies (after_writes start writes)
   pub taken_are : writes ≡ accepted commands replies
 

@@ -13,14 +13,17 @@ use Rattle.lt_language.specs.Lines.{lines_of, rest_of}
 use Rattle.lt_language.specs.Machine.{State}
 use Rattle.lt_language.specs.Replies.{Reply, texts}
 use Rattle.lt_line.specs.Held.{kept_of}
-use Rattle.lt_store.specs.Open.{StoreView, IsOpen, IsRooted, Rests}
+use Rattle.lt_store.specs.Open.{StoreView, IsOpen}
+use Rattle.lt_store.specs.Promise.{IsRooted, Rests}
 use Rattle.lt_serve.specs.declared.served.Served.{Served}
 use Rattle.lt_serve.specs.declared.served.Served.TheVariants as served
 use Rattle.lt_serve.specs.Faults.{IsPause, IsInnerHalt, IsSettled}
 use Rattle.lt_serve.specs.Runs.{Runs, StartWithOk, acknowledged}
 
--- A store of e extents that stood for `before`: all lines of the input were acted, this is the text of their replies, and all writes that were taken are durable.
-pub record Reached (e : ℕ) (before : State) (input output kept : List ℕ) (w : StoreView) (old new : told.State) : Type 0 where
+-- A store of e extents that stood for `before`: all lines of the input were acted, this is the text of their
+-- replies, and all writes that were taken are durable.
+pub record Reached (e : ℕ) (before : State) (input output kept : List ℕ) (w : StoreView)
+    (old new : told.State) : Type 0 where
   pub replies : List Reply
   pub writes : List Item
   pub runs : Runs e before (commands input) replies writes
@@ -39,7 +42,8 @@ pub record ShowsFirst (count : ℕ) (replies : List Reply) (output : List ℕ) :
   pub further : List ℕ
   pub whole : output ≡ texts (take count replies) ++ further
 
--- The output is the text of the first of these replies, each of them whole: of all, or of those before a reply that is an `OK`.
+-- The output is the text of the first of these replies, each of them whole: of all, or of those before a reply that
+-- is an `OK`.
 pub record ShowsUpToOk (replies : List Reply) (output : List ℕ) : Type 0 where
   pub shown : List Reply
   pub hidden : List Reply
@@ -47,8 +51,10 @@ pub record ShowsUpToOk (replies : List Reply) (output : List ℕ) : Type 0 where
   pub text : output ≡ texts shown
   pub first : StartWithOk hidden
 
--- Serving is over: first commands of the ended input were answered by the map machine, and the output is a front of the text of the replies.
-pub record Over (e : ℕ) (before : State) (status : Served) (input output : List ℕ) (faults0 faults : ℕ) (old new : told.State) : Type 0 where
+-- Serving is over: first commands of the ended input were answered by the map machine, and the output is a front of
+-- the text of the replies.
+pub record Over (e : ℕ) (before : State) (status : Served) (input output : List ℕ) (faults0 faults : ℕ)
+    (old new : told.State) : Type 0 where
   -- the commands that were acted and those that were not
   pub acted : List Command
   pub others : List Command
@@ -64,8 +70,10 @@ pub record Over (e : ℕ) (before : State) (status : Served) (input output : Lis
   pub all : status ≡ served.Done → (others ≡ []) × (hidden ≡ [])
   -- between two lines: all lines
   pub paused : IsPause status → (acted ≡ commands input) × (hidden ≡ [])
-  -- elsewhere: the lines that end a page or more before the end of what was taken are answered; and where the sink did not fail, no reply before the first `OK` that is not shown is hidden
-  pub far : (front behind : List ℕ) → input ≡ front ++ behind → 4096 ≤ length behind → ShowsFirst (length (lines_of front)) replies output
+  -- elsewhere: the lines that end a page or more before the end of what was taken are answered; and where the sink
+  -- did not fail, no reply before the first `OK` that is not shown is hidden
+  pub far : (front behind : List ℕ) → input ≡ front ++ behind → 4096 ≤ length behind
+      → ShowsFirst (length (lines_of front)) replies output
   pub whole : IsInnerHalt status → (Rose faults0 faults → ⊥) → ShowsUpToOk replies output
   -- each image since the start has first writes of those that were taken, and none in part
   pub since : Leaves (λ left. IsPrefix left before writes 0) old new
@@ -85,25 +93,29 @@ pub record GainsSome (stands0 stands : List ℕ → Type 0) : Type 0 where
   pub gained : Gains stands0 stands shown
 
 -- a call that gave bytes to the sink, and goes on
-pub record SteppedOn (e : ℕ) (before : State) (input output kept : List ℕ) (w : StoreView) (stands0 stands : List ℕ → Type 0) (start new : told.State) : Type 0 where
+pub record SteppedOn (e : ℕ) (before : State) (input output kept : List ℕ) (w : StoreView) (stands0 stands : List ℕ
+    → Type 0) (start new : told.State) : Type 0 where
   pub added : List ℕ
   pub gained : Gains stands0 stands added
   pub reached : Reached e before input (output ++ added) kept w start new
 
 -- a call that gave bytes to the sink, and after which serving is over
-pub record SteppedOver (e : ℕ) (before : State) (status : Served) (input output : List ℕ) (stands0 stands : List ℕ → Type 0) (faults0 faults : ℕ) (start new : told.State) : Type 0 where
+pub record SteppedOver (e : ℕ) (before : State) (status : Served) (input output : List ℕ) (stands0 stands : List ℕ
+    → Type 0) (faults0 faults : ℕ) (start new : told.State) : Type 0 where
   pub added : List ℕ
   pub gained : Gains stands0 stands added
   pub over : Over e before status input (output ++ added) faults0 faults start new
 
 -- a call that took bytes of the source, gave bytes to the sink, and goes on
-pub record TurnedOn (e : ℕ) (before : State) (input output kept : List ℕ) (w : StoreView) (left0 left : Option (List ℕ)) (stands0 stands : List ℕ → Type 0) (start new : told.State) : Type 0 where
+pub record TurnedOn (e : ℕ) (before : State) (input output kept : List ℕ) (w : StoreView) (left0 left : Option
+    (List ℕ)) (stands0 stands : List ℕ → Type 0) (start new : told.State) : Type 0 where
   pub taken : List ℕ
   pub takes : Takes left0 left taken
   pub on : SteppedOn e before (input ++ taken) output kept w stands0 stands start new
 
 -- a call that took bytes of the source, gave bytes to the sink, and after which serving is over
-pub record TurnedOver (e : ℕ) (before : State) (status : Served) (input output : List ℕ) (left0 left : Option (List ℕ)) (stands0 stands : List ℕ → Type 0) (faults0 faults : ℕ) (start new : told.State) : Type 0 where
+pub record TurnedOver (e : ℕ) (before : State) (status : Served) (input output : List ℕ) (left0 left : Option
+    (List ℕ)) (stands0 stands : List ℕ → Type 0) (faults0 faults : ℕ) (start new : told.State) : Type 0 where
   pub taken : List ℕ
   pub takes : Takes left0 left taken
   pub at_end : status ≡ served.Done → IsAtEnd left

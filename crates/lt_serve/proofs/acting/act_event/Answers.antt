@@ -1,13 +1,13 @@
-use Rattle.std.proofs.Common.{rules, ◌∙◌, sym, ap, subst, Ok, IfErr, IsErrOf}
+use Rattle.std.proofs.Common.{◌≡◌, rules, ◌∙◌, refl, sym, ap, subst, true, Ok, IfErr, IsErrOf}
 use Rattle.lt_language.specs.Machine.{State}
 use Rattle.std.proofs.lemmas.Result.{err_from_is_err_and}
 use Rattle.lt_store.specs.declared.faults.WriteFault.TheVariants as faults
-use Rattle.lt_store.specs.Damage.{StopsGet}
 use Rattle.lt_store.specs.Open.{IsOpen}
 use Rattle.lt_store.specs.View.{view_of}
 use Rattle.lt_serve.specs.Acting.{Answers, Lost}
 use Rattle.lt_serve.specs.Faults.{round_fault_of}
 use Rattle.lt_serve.proofs.ActLaws.{answers-event, lost-event}
+use Rattle.lt_serve.proofs.SizeLaws.{sizes-regions}
 use Rattle.lt_serve.proofs.acting.act_event.Goals as goal
 
 pub returns-in_err-outcome-clause-err : goal.returns-in_err-outcome-clause-err
@@ -25,7 +25,12 @@ pub returns-in_err-outcome-clause-damaged : goal.returns-in_err-outcome-clause-d
 returns-in_err-outcome-clause-damaged g c = λ b is.
     let was : IsErrOf c.act.result (faults.Damaged b) = search rules in
     let bad = c.act.ensures.damaged b was in
-    subst (λ s. StopsGet s b) (sym (c.act.ensures.asked bad.0).1) bad.1
+    record { key = bad.key; named = (view_of c.args.store.now).named; geometry_is = refl; extents_are = refl; stops = bad.stops }
+
+pub returns-clause-sizes : goal.returns-clause-sizes
+returns-clause-sizes g c =
+    let up : c.act.new.self.is_up ≡ true = search rules in
+    sizes-regions _ _ (c.act.ensures.regions up)
 
 pub found-requires : goal.found-requires
 found-requires g c = λ n is. c.in_ok-outcome.ensures.value n (ap Ok is)
