@@ -1,5 +1,6 @@
 -- Extents are seen as a list that says of each number whether it is taken.
-use Rattle.std.specs.Prelude.{◌≡◌, ◌≢◌, ℕ, ◌<◌, Bool, true, not, ◌&&◌, List, ◌++◌, length, All, AllPairs, count_by, IsTrue, slice_index_or}
+use Rattle.std.specs.Prelude.{◌≡◌, ◌≢◌, ℕ, ◌<◌, Bool, true, not, ◌&&◌, List, ◌++◌, length, All, AllPairs, count_by}
+use Rattle.std.specs.Prelude.{IsTrue, slice_index_or}
 use Rattle.lt_terms.specs.Numbers.{is_in}
 
 -- this is the number of an extent, and it is free

@@ -1,6 +1,7 @@
 //! Extents by number, taken or free.
 
-ghost use Rattle.std.specs.Prelude.{◌≡◌, ◌+◌, ◌^◌, ◌<◌, ◌≤◌, ◌↔◌, Bool, true, false, List, All, length, IfOk, IfErr, OnOk, OnErr, IsErr, IsTrue, slice_set, vec_len, vec_capacity};
+ghost use Rattle.std.specs.Prelude.{◌≡◌, ◌+◌, ◌^◌, ◌<◌, ◌≤◌, ◌↔◌, Bool, true, false, List, All, length, IfOk, IfErr};
+ghost use Rattle.std.specs.Prelude.{OnOk, OnErr, IsErr, IsTrue, slice_set, vec_len, vec_capacity};
 ghost use Rattle.lt_alloc.specs.Extents.{is_free, free_count, AreTaken, Reserves};
 ghost use Rattle.lt_alloc.specs.Stack.{IsStack};
 
@@ -56,7 +57,8 @@ impl Extents {
         requires { vec_len into.old + needed ≤ vec_capacity into.old }
         ensures ok { OnOk result (Reserves needed self.old self.new into.old.items into.new.items) }
         ensures short { IsErr result ↔ (free_count self.old < needed) }
-        ensures numbers { IfErr result (λ short. (short.needed ≡ needed) × (short.free ≡ free_count self.old)) }
+        ensures numbers { IfErr result (λ short. (short.needed ≡ needed)
+            × (short.free ≡ free_count self.old)) }
         ensures err { OnErr result ((self.new ≡ self.old) × (into.new.items ≡ into.old.items)) }
         ensures extents { length self.new ≡ length self.old }
         ensures room { vec_capacity into.new ≡ vec_capacity into.old }

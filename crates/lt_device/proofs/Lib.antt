@@ -1,3 +1,4 @@
+pub mod CallLaws
 pub mod Fits
 pub mod Histories
 pub mod Images

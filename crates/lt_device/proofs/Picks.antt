@@ -28,7 +28,7 @@ pub record Followed (picks : List Pick) (flags : List Bool) (stable shown pages 
   pub count : next ≡ count_by (λ (flag : Bool). flag) (take i flags)
   pub few : next ≤ i
 
--- a block that is sure
+-- a block that is synced
 pub Followed-sure : (picks : List Pick) (flags : List Bool) (stable shown pages : Image) (i next : ℕ) → i < length flags → get_or flags i false ≡ false → Followed picks flags stable shown pages i next → Followed picks flags stable shown pages (i + 1) next
 Followed-sure picks flags stable shown pages i next below off so_far = record {
   before = λ k lt. elim (cases_eq k i) [
@@ -65,11 +65,11 @@ pub IsPicked-each : (picks : List Pick) (d : Memory) (left : Image) → IsStable
     → ((k : ℕ) → k < length d.stable → block_at left k ≡ left_at picks d.unsynced d.stable d.shown k) → IsPicked picks d left
 IsPicked-each picks d left stable size long each = record {
   size = size;
-  sure = λ k off. elim (cases_lt k (length d.shown)) [
+  synced = λ k off. elim (cases_lt k (length d.shown)) [
     | inl below ↦ each k (omega (arith, stable.size)) ∙ ap (λ b. cond b (picked (pick_of picks d.unsynced k) (block_at d.stable k) (block_at d.shown k)) (block_at d.stable k)) off ∙ stable.sure k below off
     | inr past ↦ both_past left d.shown k (omega arith) past
   ];
-  unsure = λ k on. elim (cases_lt k (length d.shown)) [
+  unsynced = λ k on. elim (cases_lt k (length d.shown)) [
     | inl below ↦ each k (omega (arith, stable.size)) ∙ ap (λ b. cond b (picked (pick_of picks d.unsynced k) (block_at d.stable k) (block_at d.shown k)) (block_at d.stable k)) on
     | inr past ↦ let off : get_or d.unsynced k false ≡ false = get_or_past d.unsynced k false (omega arith) in absurd (cc (on, off))
   ];
@@ -82,5 +82,5 @@ MayLeave-picked picks d left is blocks = record {
   unsynced = d.unsynced;
   shown_is = refl;
   unsynced_is = refl;
-  crash = record { size = is.size; kept = is.sure; pages = blocks };
+  crash = record { size = is.size; kept = is.synced; pages = blocks };
 }

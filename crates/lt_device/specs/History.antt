@@ -1,5 +1,6 @@
 -- The history of a device in memory, the newest first, and what it tells of the blocks that it led to.
-use Rattle.std.specs.Prelude.{◌≡◌, ℕ, ◌<◌, Bool, true, false, List, [], ◌∷◌, ◌++◌, length, map, replicate, drop, slice_index_or, slice_set}
+use Rattle.std.specs.Prelude.{◌≡◌, ℕ, ◌<◌, Bool, true, false, List, [], ◌∷◌, ◌++◌, length, map, replicate, drop}
+use Rattle.std.specs.Prelude.{slice_index_or, slice_set}
 use Rattle.lt_terms.specs.Bytes.{Image}
 use Rattle.lt_device.specs.State.{Epoch}
 use Rattle.lt_device.specs.declared.history.Entry.{Entry}
@@ -41,7 +42,8 @@ written_of blocks (synced ∷ older) = replicate blocks false
 abbrev pub past_of : List Made → Image → List Epoch
 past_of [] image = []
 past_of (wrote block before ∷ older) image = past_of older (slice_set image block before)
-past_of (synced ∷ older) image = past_of older image ++ record { shown = image; unsynced = written_of (length image) older } ∷ []
+past_of (synced ∷ older) image =
+    past_of older image ++ record { shown = image; unsynced = written_of (length image) older } ∷ []
 
 -- each write is of one of so many blocks
 abbrev pub WritesBelow : ℕ → List Made → Type 0
@@ -52,7 +54,8 @@ WritesBelow blocks (synced ∷ older) = WritesBelow blocks older
 -- a history fits a device of so many blocks, of which these were written since the last sync
 pub record IsHistoryOf (blocks : ℕ) (unsynced : List Bool) (room : ℕ) (history : List Made) : Type 0 where
   pub below : WritesBelow blocks history
-  -- a block that is sure was not written since
-  pub sure : (k : ℕ) → slice_index_or unsynced k false ≡ false → slice_index_or (written_of blocks history) k false ≡ false
+  -- a block that is not unsynced was not written since
+  pub sure : (k : ℕ) → slice_index_or unsynced k false ≡ false
+      → slice_index_or (written_of blocks history) k false ≡ false
   -- and no other is, as long as each write had room
   pub exact : 0 < room → unsynced ≡ written_of blocks history

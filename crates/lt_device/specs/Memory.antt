@@ -1,5 +1,6 @@
 -- A device in memory that can fail: what it holds, what it tells, and how its calls change it.
-use Rattle.std.specs.Prelude.{◌≡◌, ℕ, ◌-◌, ◌==◌, Bool, true, false, ◌||◌, List, [], ◌∷◌, ◌++◌, length, map, take, replicate, count_by, nat_le, slice_index_or, slice_set, Option, Some, None, if◌then◌else◌}
+use Rattle.std.specs.Prelude.{◌≡◌, ℕ, ◌-◌, ◌==◌, Bool, true, false, ◌||◌, List, [], ◌∷◌, ◌++◌, length, map, take}
+use Rattle.std.specs.Prelude.{replicate, count_by, nat_le, slice_index_or, slice_set, Option, Some, None, if◌then◌else◌}
 use Rattle.std.specs.List.{All, list_any}
 use Rattle.lt_terms.specs.Bytes.{Image, block_at}
 use Rattle.lt_terms.specs.Causes.{next_count}
@@ -79,17 +80,18 @@ recorded d block page = record d {
   room = d.room - 1;
 }
 
--- one that is not leaves the block as it reads, but no longer sure
-abbrev pub unsure : Memory → ℕ → Memory
-unsure d block = record d { unsynced = slice_set d.unsynced block true }
+-- a write that is not recorded leaves the block as it reads, but unsynced
+abbrev pub left_unsynced : Memory → ℕ → Memory
+left_unsynced d block = record d { unsynced = slice_set d.unsynced block true }
 
 -- a write fails where it is told to, and where the history has no room
 abbrev pub after_write : Memory → ℕ → List ℕ → Memory
-after_write d block page = called (if is_full d then unsure d block else recorded d block page) (is_failing d || is_full d)
+after_write d block page =
+    called (if is_full d then left_unsynced d block else recorded d block page) (is_failing d || is_full d)
 
--- all blocks are sure
-abbrev pub made_sure : Memory → Memory
-made_sure d = record d {
+-- all blocks are synced
+abbrev pub all_synced : Memory → Memory
+all_synced d = record d {
   stable = d.shown;
   unsynced = map (λ _. false) d.unsynced;
   past = d.past ++ record { shown = d.shown; unsynced = d.unsynced } ∷ [];
@@ -98,13 +100,13 @@ made_sure d = record d {
 
 -- a sync that fails does nothing
 abbrev pub after_sync : Memory → Memory
-after_sync d = if is_failing d || is_full d then called d true else called (made_sure d) false
+after_sync d = if is_failing d || is_full d then called d true else called (all_synced d) false
 
 -- ---- crash and patch
 
 -- no block was written since the last sync that answered Ok
-abbrev pub IsClean : Memory → Type 0
-IsClean d = All (λ flag. flag ≡ false) d.unsynced
+abbrev pub IsSynced : Memory → Type 0
+IsSynced d = All (λ flag. flag ≡ false) d.unsynced
 
 -- one block set, as it reads and as it is stable, and an empty history
 abbrev pub patched : Memory → ℕ → List ℕ → Memory
@@ -132,11 +134,12 @@ pick_of picks unsynced block = slice_index_or picks (count_by (λ flag. flag) (t
 -- what these picks leave of a block, by the blocks as they were at the last sync and as they read
 abbrev pub left_at : List Pick → List Bool → Image → Image → ℕ → List ℕ
 left_at picks unsynced stable shown k =
-    if slice_index_or unsynced k false then picked (pick_of picks unsynced k) (block_at stable k) (block_at shown k) else block_at stable k
+    if slice_index_or unsynced k false then picked (pick_of picks unsynced k) (block_at stable k) (block_at shown k)
+    else block_at stable k
 
 -- the image that these picks name
 pub record IsPicked (picks : List Pick) (d : Memory) (left : Image) : Type 0 where
   pub size : length left ≡ length d.shown
-  pub sure : (k : ℕ) → slice_index_or d.unsynced k false ≡ false → block_at left k ≡ block_at d.shown k
-  pub unsure : (k : ℕ) → slice_index_or d.unsynced k false ≡ true
+  pub synced : (k : ℕ) → slice_index_or d.unsynced k false ≡ false → block_at left k ≡ block_at d.shown k
+  pub unsynced : (k : ℕ) → slice_index_or d.unsynced k false ≡ true
       → block_at left k ≡ picked (pick_of picks d.unsynced k) (block_at d.stable k) (block_at d.shown k)

@@ -1,5 +1,6 @@
 -- The images that a crash may leave, now and at each moment since an earlier one.
-use Rattle.std.specs.Prelude.{◌≡◌, ◌⊎◌, ℕ, ◌≤◌, Bool, true, false, List, [], ◌∷◌, length, drop, slice_index_or, Option, Some, None}
+use Rattle.std.specs.Prelude.{◌≡◌, ◌⊎◌, ℕ, ◌≤◌, Bool, true, false, List, [], ◌∷◌, length, drop, slice_index_or}
+use Rattle.std.specs.Prelude.{Option, Some, None}
 use Rattle.lt_terms.specs.Bytes.{Image}
 use Rattle.lt_device.specs.Image.{IsCrashOf, SameOutside}
 use Rattle.lt_device.specs.State.{Epoch, State}
@@ -11,6 +12,10 @@ pub record MayLeave (s : State) (left : Image) : Type 0 where
   pub shown_is : s.shown ≡ Some shown
   pub unsynced_is : s.unsynced ≡ Some unsynced
   pub crash : IsCrashOf shown unsynced left
+
+-- a crash at this moment leaves none but images that have P
+abbrev pub MayOnlyLeave : (Image → Type 0) → State → Type 0
+MayOnlyLeave P s = (left : Image) → MayLeave s left → P left
 
 -- how many epochs are told
 abbrev pub length_of_past : Option (List Epoch) → ℕ
@@ -55,7 +60,8 @@ pub record Leaves (P : Image → Type 0) (old new : State) : Type 0 where
 
 -- where a device tells what it reads as, it still tells it, and the same outside these blocks
 pub record ShowsSameOutside (inside : ℕ → Type 0) (old new : Option Image) : Type 0 where
-  pub each : (before : Image) → old ≡ Some before → (image : Image) × (new ≡ Some image) × SameOutside inside before image
+  pub each : (before : Image) → old ≡ Some before
+      → (image : Image) × (new ≡ Some image) × SameOutside inside before image
 
 -- an image that agrees, outside these blocks, with one that a crash may leave at this state
 pub record IsNear (inside : ℕ → Type 0) (s : State) (left : Image) : Type 0 where

@@ -1,5 +1,6 @@
 -- What a device tells of itself, and how its calls change that.
-use Rattle.std.specs.Prelude.{◌≡◌, ◌⊎◌, ℕ, Bool, true, false, List, [], ◌∷◌, ◌++◌, length, map, slice_set, Option, Some, None}
+use Rattle.std.specs.Prelude.{◌≡◌, ◌⊎◌, ℕ, Bool, true, false, List, [], ◌∷◌, ◌++◌, length, map, slice_set}
+use Rattle.std.specs.Prelude.{Option, Some, None}
 use Rattle.std.specs.Option.{option_map}
 use Rattle.lt_terms.specs.Bytes.{Image, IsBlock}
 use Rattle.lt_device.specs.Image.{IsWhole}
@@ -20,7 +21,7 @@ pub record State : Type 0 where
 abbrev pub tells_nothing : State
 tells_nothing = record { shown = None; unsynced = None; past = None }
 
--- one block reads as this page, and is not yet sure
+-- one block reads as this page, and is unsynced
 abbrev pub written : State → ℕ → List ℕ → State
 written s block page = record {
   shown = option_map (λ image. slice_set image block page) s.shown;
@@ -33,7 +34,7 @@ abbrev pub longer_past : Option Image → Option (List Bool) → Option (List Ep
 longer_past (Some image) (Some flags) (Some epochs) = Some (epochs ++ record { shown = image; unsynced = flags } ∷ [])
 longer_past shown unsynced past = past
 
--- every block is sure
+-- every block is synced
 abbrev pub synced : State → State
 synced s = record {
   shown = s.shown;
@@ -44,17 +45,18 @@ synced s = record {
 -- what is told has the device's size, and nothing is told without what it rests on
 pub record IsFit (blocks : ℕ) (s : State) : Type 0 where
   pub shown : (image : Image) → s.shown ≡ Some image → IsWhole blocks image
-  pub unsynced : (flags : List Bool) → s.unsynced ≡ Some flags → (image : Image) × (s.shown ≡ Some image) × (length flags ≡ blocks)
+  pub unsynced : (flags : List Bool) → s.unsynced ≡ Some flags
+      → (image : Image) × (s.shown ≡ Some image) × (length flags ≡ blocks)
   pub past : (epochs : List Epoch) → s.past ≡ Some epochs → (flags : List Bool) × (s.unsynced ≡ Some flags)
 
--- a write, whatever it answered: the block reads as some page, and is not sure
+-- a write, whatever it answered: the block reads as some page, and is unsynced
 pub record Wrote (blocks block : ℕ) (old new : State) : Type 0 where
   pub fit : IsFit blocks old
   pub page : List ℕ
   pub whole : IsBlock page
   pub is : new ≡ written old block page
 
--- a sync, whatever it answered: all is as it was, or sure
+-- a sync, whatever it answered: all is as it was, or synced
 pub record EndedSync (blocks : ℕ) (old new : State) : Type 0 where
   pub fit : IsFit blocks old
   pub either : (new ≡ old) ⊎ (new ≡ synced old)

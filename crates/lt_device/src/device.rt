@@ -58,7 +58,7 @@ pub trait Device {
         ensures count { reads self.new ≡ reads self.old }
         ensures cause { HasCause (faults self.old) (faults self.new) result };
 
-    /// Makes sure all that was written. Whatever it answers, all blocks read as before.
+    /// Makes durable all that was written. Whatever it answers, all blocks read as before.
     fn sync(&mut self) -> Result<(), Failed>
         ensures ok { OnOk result (state self.new ≡ synced (state self.old)) }
         ensures err { OnErr result (state self.new ≡ state self.old) }

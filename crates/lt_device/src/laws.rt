@@ -4,11 +4,14 @@
 //! that the data is the crash model, in both directions, and how clauses on images go on from call
 //! to call.
 
-ghost use Rattle.std.specs.Prelude.{◌≡◌, ◌⊎◌, ℕ, ◌<◌, ◌≤◌, Bool, List, Some, slice_set};
+ghost use Rattle.std.specs.Prelude.{◌≡◌, ◌⊎◌, ℕ, ◌+◌, ◌<◌, ◌≤◌, Bool, List, Some, slice_set};
 ghost use Rattle.lt_terms.specs.Bytes.{Image, IsBlock, block_at};
+ghost use Rattle.lt_device.specs.Calls.{OnlyReads, OnlyWrites, ReadsAndWrites};
 ghost use Rattle.lt_device.specs.Image.{IsWhole, SameOutside};
 ghost use Rattle.lt_device.specs.State.{Epoch, State, synced, written, IsFit, Wrote, EndedSync};
 ghost use Rattle.lt_device.specs.Moments.{MayLeave, clock, LeftSince, Leaves, IsNear, ConfinedTo, UnsyncedIn};
+
+use crate::device::Device;
 
 /// A fact of images.
 pub trait Fact {
@@ -141,4 +144,14 @@ pub fn unsynced<S: Region>()
     // outside them a crash leaves what is read
     ensures near { (s : State) (image left : Image) → UnsyncedIn S.inside s → s.shown ≡ Some image
         → MayLeave s left → SameOutside S.inside image left }
+{}
+
+/// Calls of a device, one after another, before an answer.
+pub fn calls_go_on<D: Device>()
+    ensures reads { (m n k : ℕ) (old mid new : D) → m + n ≤ k → OnlyReads D.Device m ⊥ old mid
+        → OnlyReads D.Device n ⊥ mid new → OnlyReads D.Device k ⊥ old new }
+    ensures writes { (old mid new : D) → OnlyWrites D.Device ⊥ old mid
+        → OnlyWrites D.Device ⊥ mid new → OnlyWrites D.Device ⊥ old new }
+    ensures both { (m n k : ℕ) (old mid new : D) → m + n ≤ k → ReadsAndWrites D.Device m ⊥ old mid
+        → ReadsAndWrites D.Device n ⊥ mid new → ReadsAndWrites D.Device k ⊥ old new }
 {}

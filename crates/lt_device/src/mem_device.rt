@@ -5,7 +5,9 @@ ghost use Rattle.std.specs.Option.{ForSome};
 ghost use Rattle.lt_terms.specs.Bytes.{AreBlocks, block_at, zero_block};
 ghost use Rattle.lt_terms.specs.Causes.{CountsOne, HasCause};
 ghost use Rattle.lt_device.specs.State.{EndedSync, IsFit, Wrote, synced, written};
-ghost use Rattle.lt_device.specs.Memory.{IsClean, IsPicked, after_read, after_sync, after_write, called, fresh, is_failing, is_full, made_sure, memory_state, patched, recorded, unsure};
+ghost use Rattle.lt_device.specs.Memory.{IsSynced, IsPicked, after_read, after_sync, after_write};
+ghost use Rattle.lt_device.specs.Memory.{all_synced, called, fresh, is_failing, is_full, left_unsynced, memory_state};
+ghost use Rattle.lt_device.specs.Memory.{patched, recorded};
 ghost use Rattle.lt_device.specs.Moments.{MayLeave};
 
 use super::device::Device;
@@ -24,7 +26,7 @@ use std::marker::Model;
 /// the syncs that answered Ok, up to a limit: a write or sync past it fails too.
 ///
 /// A write that fails is made nevertheless if the history has room, and else leaves the block as it
-/// reads; in both cases the block is not sure. A read or a sync that fails does nothing, and is not
+/// reads; in both cases the block is unsynced. A read or a sync that fails does nothing, and is not
 /// recorded. A call looks through the whole list.
 #[derive(Drop)]
 pub struct MemDevice {
@@ -105,7 +107,7 @@ impl MemDevice {
     /// the device.
     pub fn patch(&mut self, block: u64, page: &Page)
         requires below { block < length self.old.shown }
-        requires clean { IsClean self.old }
+        requires synced { IsSynced self.old }
         ensures { self.new ≡ patched self.old block page.now }
     {
         let shown = &mut self.store.pages[block as usize];
@@ -114,8 +116,8 @@ impl MemDevice {
     }
 
     /// Whether no block was written since the last sync that answered Ok.
-    pub fn is_clean(&self) -> bool
-        ensures { IsTrue result ↔ IsClean self.now }
+    pub fn is_synced(&self) -> bool
+        ensures { IsTrue result ↔ IsSynced self.now }
     {
         self.store.unsynced.iter().all(|unsynced| !*unsynced)
     }
@@ -206,17 +208,17 @@ impl MemDevice {
     fn unsettle(&mut self, block: u64)
         requires below { block < length self.old.shown }
         requires full { self.old.room ≡ 0 }
-        ensures unsure { self.new ≡ unsure self.old block }
+        ensures unsynced { self.new ≡ left_unsynced self.old block }
         ensures wrote { Wrote (length self.old.shown) block
             (memory_state self.old) (memory_state self.new) }
     {
         self.store.unsynced[block as usize] = true;
     }
 
-    /// Makes all blocks sure, and records that.
+    /// Syncs all blocks, and records that.
     fn settle(&mut self)
         requires { 0 < self.old.room }
-        ensures { self.new ≡ made_sure self.old }
+        ensures { self.new ≡ all_synced self.old }
     {
         self.history.sync();
         self.store.sync();

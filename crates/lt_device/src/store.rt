@@ -16,30 +16,30 @@ pub struct Store {
 }
 
 impl Store {
-    /// Blocks of zeros, all sure.
+    /// Blocks of zeros, all synced.
     pub fn new(alloc: Global, blocks: u64) -> Result<Store, NoMemory>
         ensures shown { IfOk result (λ store. store.pages.items ≡ replicate blocks zero_block) }
-        ensures sure { IfOk result (λ store. store.unsynced.items ≡ replicate blocks false) }
+        ensures synced { IfOk result (λ store. store.unsynced.items ≡ replicate blocks false) }
     {
         Store::over(alloc, zero_pages(alloc, blocks)?)
     }
 
-    /// These blocks, all sure.
+    /// These blocks, all synced.
     pub fn over(alloc: Global, pages: Vec<Page>) -> Result<Store, NoMemory>
         requires { AreBlocks pages.items }
         ensures shown { IfOk result (λ store. store.pages.items ≡ pages.items) }
-        ensures sure { IfOk result
+        ensures synced { IfOk result
             (λ store. store.unsynced.items ≡ replicate (length pages.items) false) }
     {
         let unsynced = vec![in alloc; false; pages.len()]?;
         Ok(Store { pages, unsynced })
     }
 
-    /// Writes a block, which is not sure from then on.
+    /// Writes a block, which is unsynced from then on.
     pub fn write(&mut self, block: usize, from: &Page)
         requires { block < length self.old.pages.items }
         ensures shown { self.new.pages.items ≡ slice_set self.old.pages.items block from.now }
-        ensures unsure { self.new.unsynced.items ≡ slice_set self.old.unsynced.items block true }
+        ensures unsynced { self.new.unsynced.items ≡ slice_set self.old.unsynced.items block true }
         ensures block { IsBlock from.now }
     {
         let page = &mut self.pages[block];
@@ -47,10 +47,10 @@ impl Store {
         self.unsynced[block] = true;
     }
 
-    /// Makes all blocks sure.
+    /// Syncs all blocks.
     pub fn sync(&mut self)
         ensures shown { self.new.pages.items ≡ self.old.pages.items }
-        ensures sure { self.new.unsynced.items ≡ map (λ _. false) self.old.unsynced.items }
+        ensures synced { self.new.unsynced.items ≡ map (λ _. false) self.old.unsynced.items }
     {
         self.unsynced.fill(false);
     }

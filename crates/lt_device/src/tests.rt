@@ -70,7 +70,7 @@ fn calls_fail_that_are_listed_or_past_the_history_or_stopped(
         (device.calls(), device.faults(), device.reads()),
         (7, 4, 1)
     );
-    assert!(rt; !device.is_clean());
+    assert!(rt; !device.is_synced());
     Ok(())
 }
 
@@ -99,7 +99,7 @@ fn a_crash_follows_the_picks(rt: HostRuntime) -> Result<(), NoMemory> {
     ];
     for (picks, want) in &rows {
         let left = device.crash(rt.alloc(), picks, 9, Vec::new(rt.alloc()), None)?;
-        assert!(rt; left.is_clean());
+        assert!(rt; left.is_synced());
         assert_eq!(rt; (left.calls(), left.faults(), left.reads()), (0, 0, 0));
         for block in 0..4 {
             assert_eq!(rt; left.page(block as u64).byte(4095), want[block]);
@@ -113,7 +113,7 @@ fn a_patch_is_stable_and_empties_the_history(rt: HostRuntime) -> Result<(), NoMe
     let mut device = MemDevice::new(rt.alloc(), 1, 2, Vec::new(rt.alloc()), None)?;
     assert_eq!(rt; write(&mut device, 0, &page_of(rt.alloc(), 1)?), Ok(()));
     assert_eq!(rt; sync(&mut device), Ok(()));
-    assert!(rt; device.is_clean());
+    assert!(rt; device.is_synced());
     device.patch(0, &page_of(rt.alloc(), 5)?);
     assert_eq!(rt; device.page(0).byte(0), 5);
     assert_eq!(rt; write(&mut device, 0, &page_of(rt.alloc(), 6)?), Ok(()));
@@ -163,7 +163,7 @@ impl Device for Silent {
     }
 }
 
-/// Writes a block and makes it sure.
+/// Writes a block and syncs.
 fn put<D: Device>(device: &mut D, block: u64, page: &Page) -> Result<(), Failed>
     requires { block < D.blocks device.old }
     ensures confined { ConfinedTo (λ k. k ≡ block) (D.state device.old) (D.state device.new) }

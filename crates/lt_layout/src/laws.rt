@@ -8,5 +8,6 @@ ghost use Rattle.lt_format.specs.Layout.{is_geometry, superblock, geometry_of};
 /// The superblock of a valid geometry is read as this geometry, and no other block is.
 pub fn one_superblock()
     ensures read { (g : Geometry) → IsTrue (is_geometry g) → geometry_of (superblock g) ≡ Some g }
-    ensures only { (block : List ℕ) (g : Geometry) → IsBlock block → geometry_of block ≡ Some g → IsTrue (is_geometry g) × (block ≡ superblock g) }
+    ensures only { (block : List ℕ) (g : Geometry) → IsBlock block → geometry_of block ≡ Some g
+        → IsTrue (is_geometry g) × (block ≡ superblock g) }
 {}

@@ -1,5 +1,5 @@
 -- What a manifest in memory is after it was read, and after a change.
-use Rattle.std.proofs.Common.{◌≡◌, ℕ, ◌+◌, ◌/◌, ◌^◌, ◌<◌, ◌≤◌, refl, sym, ap, subst, ◌∙◌, true, ◌&&◌, List, [], ◌∷◌, length, Some, Ok, Err, IsTrue, arith}
+use Rattle.std.proofs.Common.{◌≡◌, ℕ, ◌+◌, ◌*◌, ◌/◌, ◌^◌, ◌<◌, ◌≤◌, refl, sym, ap, subst, ◌∙◌, true, ◌&&◌, List, [], ◌∷◌, length, Some, Ok, Err, IsTrue, arith}
 use Rattle.std.specs.Prelude.{nat_le, ◌==◌}
 use Rattle.std.proofs.lemmas.Bool.{and_parts, leb-true, eqb-true}
 use Rattle.lt_terms.specs.Bytes.{Image, block_at, block_of}
@@ -10,10 +10,12 @@ use Rattle.lt_device.proofs.Fits.{wrote_fit}
 use Rattle.lt_format.specs.declared.geometry.Geometry.{Geometry}
 use Rattle.lt_format.specs.declared.header.Header.{Header}
 use Rattle.lt_format.specs.Layout.{is_geometry, blocks_needed, selected, selector_block}
-use Rattle.lt_format.specs.Trie.{IsTrie, all_below}
+use Rattle.lt_format.specs.Trie.{IsTrie, all_below, named}
 use Rattle.lt_format.specs.Changes.{Change, flush, deal, rewrite, new_extents, fits, after_change}
-use Rattle.lt_format.specs.Snapshot.{Manifest, IsManifest, snapshot_in, snapshot_bytes, extents_stand}
+use Rattle.lt_format.specs.Snapshot.{Manifest, IsManifest, nodes_bytes, snapshot_in, snapshot_bytes, extents_stand}
 use Rattle.lt_format.specs.Naming.{Named, manifest_in, may_commit, after_commit, log_moves}
+use Rattle.lt_format.proofs.Numbers.{length-distinct}
+use Rattle.lt_format.proofs.NodeReadLaws.{nodes_short}
 use Rattle.lt_format.proofs.KeepLaws.{after_change-trie}
 use Rattle.lt_format.proofs.SnapshotReadLaws.{pages-fit, pages-read}
 use Rattle.lt_node.specs.View.{TrieView}
@@ -95,6 +97,13 @@ bytes-fit g blocks m stands =
     let few : (length (snapshot_bytes m) + 4095) / 4096 ≤ 305 = pages in
     omega (arith, few)
 
+pub nodes-fit : (g : Geometry) (blocks : ℕ) (m : Manifest) → IsManifest g blocks m → length (nodes_bytes m.trie) ≤ 19 * m.header.extents
+nodes-fit g blocks m stands =
+    let t : IsTrie g.levels m.header.extents m.trie = stands.trie in
+    let some : length (named m.trie) ≤ m.header.extents = length-distinct m.header.extents (named m.trie) t.distinct t.below in
+    let short = nodes_short g.levels m.header.extents m.trie t.nodes in
+    omega (arith, short.1, some)
+
 -- ---- a fresh one
 
 pub fresh-stands : (g : Geometry) (blocks extents : ℕ) → IsTrue (extents_stand g blocks extents) → IsManifest g blocks (fresh g extents).manifest
@@ -149,6 +158,19 @@ pub record IsReady (g : Geometry) (area blocks : ℕ) (before : Header) (old : T
   pub may : IsTrue (may_commit g.levels (record { header = before; trie = old.nodes }) change header)
   pub writes : header.writes < 2 ^ 64
   pub applied : trie ≡ record old { nodes = after_change old.nodes change }
+
+pub ready-from : (g : Geometry) (area blocks : ℕ) (before : Header) (old : TrieView) (change : Change) (asked header : Header) (trie : TrieView) (named : Named)
+    → named_by g area before old.nodes ≡ named → IsHeld g area before old → IsTrue (extents_stand named.geometry blocks named.manifest.header.extents)
+    → IsTrue (may_commit named.geometry.levels named.manifest change asked) → header ≡ asked → header.writes < 2 ^ 64
+    → trie ≡ record old { nodes = after_change old.nodes change } → IsReady g area blocks before old change header trie
+ready-from g area blocks before old change asked header trie named view held stands may same writes applied = record {
+  held = held;
+  stands = subst (λ (n : Named). IsTrue (extents_stand n.geometry blocks n.manifest.header.extents)) (sym view) stands;
+  may = subst (λ (h : Header). IsTrue (may_commit g.levels (record { header = before; trie = old.nodes }) change h)) (sym same)
+      (subst (λ (n : Named). IsTrue (may_commit n.geometry.levels n.manifest change asked)) (sym view) may);
+  writes = writes;
+  applied = applied;
+}
 
 module _ (g : Geometry) (area blocks : ℕ) (before : Header) (old : TrieView) (change : Change) (header : Header) (trie : TrieView) (ready : IsReady g area blocks before old change header trie) where
   pub ready-same : ◌≡◌ {A = Manifest} (record { header = header; trie = trie.nodes }) (after_commit (record { header = before; trie = old.nodes }) change header)

@@ -17,7 +17,8 @@ pub record HasNew (named : Named) (shown left : Image) : Type 0 where
 
 -- the image names the manifest as it was, or the new one, which came after all that the device showed was sure
 pub record HasOldOrNew (old : Named) (new : Manifest) (shown left : Image) : Type 0 where
-  pub either : Names old left ⊎ ((area : ℕ) × HasNew (record { geometry = old.geometry; area = area; manifest = new }) shown left)
+  pub either : Names old left ⊎ ((area : ℕ)
+      × HasNew (record { geometry = old.geometry; area = area; manifest = new }) shown left)
 
 -- all edit gates of a manifest area are closed
 pub record EditsClosed (area : ℕ) (image : Image) : Type 0 where

@@ -42,4 +42,9 @@ pub record InSnapshot (block : ℕ) : Type 0 where
 
 -- the manifest of a fresh store, in area 0
 abbrev pub fresh : Geometry → ℕ → Named
-fresh g extents = record { geometry = g; area = 0; manifest = record { header = record { log_area = 0; extents = extents; writes = 0 }; trie = [] } }
+fresh g extents = record {
+  geometry = g;
+  area = 0;
+  manifest =
+      record { header = record { log_area = 0; extents = extents; writes = 0 }; trie = [] };
+}

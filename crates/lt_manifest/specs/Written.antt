@@ -1,5 +1,6 @@
 -- Blocks that were written one after another, and what a manifest area holds then.
-use Rattle.std.specs.Prelude.{◌≡◌, ◌⊎◌, ℕ, ◌+◌, ◌-◌, ◌*◌, ◌/◌, ◌<◌, ◌≤◌, false, List, [], ◌∷◌, Option, Some, length, slice_range}
+use Rattle.std.specs.Prelude.{◌≡◌, ◌⊎◌, ℕ, ◌+◌, ◌-◌, ◌*◌, ◌/◌, ◌<◌, ◌≤◌, false, List, [], ◌∷◌, Option, Some, length}
+use Rattle.std.specs.Prelude.{slice_range}
 use Rattle.lt_terms.specs.Bytes.{Image, block_at, block_len, block_of}
 use Rattle.lt_device.specs.Image.{SameOutside}
 use Rattle.lt_format.specs.Layout.{area_block, edit_gate, edit_slots, gate_page, selector_block}
@@ -16,7 +17,8 @@ page_count bytes = (length bytes + (block_len - 1)) / block_len
 pub record AreWritten (place : ℕ → ℕ) (page : ℕ → List ℕ) (count : ℕ) (shown : Option Image) : Type 0 where
   pub each : (image : Image) → shown ≡ Some image → (k : ℕ) → k < count → block_at image (place k) ≡ page k
 
--- the image has these bytes in an area, with zeros up to the end of their last block, and edit gates that were written closed
+-- the image has these bytes in an area, with zeros up to the end of their last block, and edit gates that were
+-- written closed
 pub record HasArea (area : ℕ) (bytes : List ℕ) (image : Image) : Type 0 where
   pub pages : (k : ℕ) → k < page_count bytes → block_at image (area_block area + k) ≡ page_of bytes k
   pub gates : (i : ℕ) → i < edit_slots → block_at image (edit_gate area i) ≡ gate_page false
@@ -40,4 +42,5 @@ InEdits area n = (edit_gate area 0 ≤ n) × (n < edit_gate area edit_slots)
 
 -- where a device tells what it reads as, it told it before, and the same outside these blocks
 pub record ComesFrom (inside : ℕ → Type 0) (old new : Option Image) : Type 0 where
-  pub each : (image : Image) → new ≡ Some image → (before : Image) × (old ≡ Some before) × SameOutside inside before image
+  pub each : (image : Image) → new ≡ Some image
+      → (before : Image) × (old ≡ Some before) × SameOutside inside before image

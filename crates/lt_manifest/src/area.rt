@@ -1,19 +1,79 @@
-//! Writing a manifest area and selecting it.
+//! Writing a manifest area and making it the current one.
 
-ghost use Rattle.std.specs.Prelude.{◌≡◌, ℕ, ◌+◌, ◌*◌, ◌<◌, ◌≤◌, Some, false, [], ◌∷◌, OnOk, length};
+ghost use Rattle.std.specs.Prelude.{◌≡◌, ℕ, ◌+◌, ◌-◌, ◌*◌, ◌<◌, ◌≤◌, Some, false, [], ◌∷◌, IsErr, IsTrue, OnOk, length};
 ghost use Rattle.std.specs.Option.{ForSome};
 ghost use Rattle.lt_terms.specs.Bytes.{Image, block_at, block_of};
-ghost use Rattle.lt_terms.specs.Causes.{HasCause};
+ghost use Rattle.lt_device.specs.Calls.{OnlyWrites};
 ghost use Rattle.lt_device.specs.Image.{SameOutside};
 ghost use Rattle.lt_device.specs.State.{IsFit};
-ghost use Rattle.lt_device.specs.Moments.{MayLeave, ConfinedTo, UnsyncedIn, ShowsSameOutside};
-ghost use Rattle.lt_format.specs.Layout.{area_block, edit_gate, edit_slots, gate_page};
-ghost use Rattle.lt_manifest.specs.Written.{AreWritten, ComesFrom, HasArea, InArea, InEdits, page_of, page_count};
+ghost use Rattle.lt_device.specs.Moments.{MayLeave, Leaves, ConfinedTo, UnsyncedIn, ShowsSameOutside, MayOnlyLeave};
+ghost use Rattle.lt_format.specs.Layout.{area_block, edit_gate, edit_slots, gate_page, is_geometry};
+ghost use Rattle.lt_format.specs.Snapshot.{Manifest};
+ghost use Rattle.lt_format.specs.Naming.{Named};
+ghost use Rattle.lt_manifest.specs.Moments.{Names, HasNew, HasOldOrNew};
+ghost use Rattle.lt_manifest.specs.Next.{IsNext};
+ghost use Rattle.lt_manifest.specs.Written.{AreWritten, ComesFrom, HasArea, HasSelected, InArea, InEdits};
+ghost use Rattle.lt_manifest.specs.Written.{InSelected, page_of, page_count};
 
 use lt_device::Device;
 use lt_format::Geometry;
 use lt_layout::write_gate;
 use lt_page::{Failed, Page};
+
+/// Writes these bytes to the area that is not current, and makes that area the current one. The page
+/// holds any bytes afterwards.
+pub fn replace<D: Device>(
+    device: &mut D,
+    geometry: &Geometry,
+    area: u8,
+    bytes: &[u8],
+    page: &mut Page,
+) -> Result<(), Failed>
+    requires valid { IsTrue (is_geometry geometry.now) }
+    requires area { area < 2 }
+    requires within { 868 ≤ D.blocks device.old }
+    requires room { length bytes.now ≤ 305 * 4096 }
+    ensures any_moment { (old : Named) (new : Manifest) (shown : Image)
+        → IsNext geometry.now area (D.blocks device.old) bytes.now old new
+        → (D.state device.old).shown ≡ Some shown
+        → MayOnlyLeave (Names old) (D.state device.old)
+        → Leaves (HasOldOrNew old new shown) (D.state device.old) (D.state device.new) }
+    ensures committed { OnOk result ((old : Named) (new : Manifest) (shown : Image)
+        → IsNext geometry.now area (D.blocks device.old) bytes.now old new
+        → (D.state device.old).shown ≡ Some shown
+        → MayOnlyLeave (Names old) (D.state device.old)
+        → (left : Image) → MayLeave (D.state device.new) left
+        → HasNew (record { geometry = geometry.now; area = 1 - area; manifest = new }) shown left) }
+    ensures written { OnOk result (MayOnlyLeave (HasSelected (1 - area) bytes.now)
+        (D.state device.new)) }
+    ensures confined { ConfinedTo (InSelected (1 - area)) (D.state device.old)
+        (D.state device.new) }
+    ensures others { ShowsSameOutside (InSelected (1 - area)) (D.state device.old).shown
+        (D.state device.new).shown }
+    ensures sure { OnOk result (UnsyncedIn (λ _. ⊥) (D.state device.new)) }
+    ensures calls { OnlyWrites D.Device (IsErr result) device.old device.new }
+{
+    let other = 1 - area;
+    write_area(device, geometry, other, bytes, page)?;
+    select_area(device, other, page)
+}
+
+/// Selects an area and makes sure of that.
+fn select_area<D: Device>(device: &mut D, area: u8, page: &mut Page) -> Result<(), Failed>
+    requires area { area < 2 }
+    requires within { 868 ≤ D.blocks device.old }
+    ensures written { OnOk result ((left : Image) → MayLeave (D.state device.new) left
+        → block_at left 1 ≡ block_of (area ∷ [])) }
+    ensures confined { ConfinedTo (λ k. k ≡ 1) (D.state device.old) (D.state device.new) }
+    ensures others { ShowsSameOutside
+        (λ k. k ≡ 1) (D.state device.old).shown (D.state device.new).shown }
+    ensures sure { OnOk result (UnsyncedIn (λ _. ⊥) (D.state device.new)) }
+    ensures calls { OnlyWrites D.Device (IsErr result) device.old device.new }
+{
+    fill_selector(page, area);
+    device.write(1, page)?;
+    device.sync()
+}
 
 /// Writes these bytes to an area, closes its edit gates, and makes sure of that. The page holds any
 /// bytes afterwards.
@@ -27,16 +87,16 @@ pub fn write_area<D: Device>(
     requires area { area < 2 }
     requires within { 868 ≤ D.blocks device.old }
     requires room { length bytes.now ≤ 305 * 4096 }
-    ensures written { OnOk result ((left : Image) → MayLeave (D.state device.new) left → HasArea area bytes.now left) }
+    ensures written { OnOk result (MayOnlyLeave (HasArea area bytes.now) (D.state device.new)) }
 
     // All that was written before is sure.
-    ensures others_sure { OnOk result ((shown : Image) → (D.state device.old).shown ≡ Some shown → (left : Image) → MayLeave (D.state device.new) left → SameOutside (InArea area) shown left) }
+    ensures others_sure { OnOk result ((shown : Image) → (D.state device.old).shown ≡ Some shown
+        → MayOnlyLeave (SameOutside (InArea area) shown) (D.state device.new)) }
     ensures fit { OnOk result (IsFit (D.blocks device.new) (D.state device.new)) }
     ensures confined { ConfinedTo (InArea area) (D.state device.old) (D.state device.new) }
-    ensures others { ShowsSameOutside (InArea area) (D.state device.old).shown (D.state device.new).shown }
-    ensures size { D.blocks device.new ≡ D.blocks device.old }
-    ensures count { D.reads device.new ≡ D.reads device.old }
-    ensures cause { HasCause (D.faults device.old) (D.faults device.new) result }
+    ensures others { ShowsSameOutside (InArea area) (D.state device.old).shown
+        (D.state device.new).shown }
+    ensures calls { OnlyWrites D.Device (IsErr result) device.old device.new }
 {
     fill_area(device, geometry, area, bytes, page)?;
     device.sync()
@@ -55,11 +115,10 @@ pub fn fill_area<D: Device>(
     requires room { length bytes.now ≤ 305 * 4096 }
     ensures written { OnOk result (ForSome (D.state device.new).shown (HasArea area bytes.now)) }
     ensures confined { ConfinedTo (InArea area) (D.state device.old) (D.state device.new) }
-    ensures others { ShowsSameOutside (InArea area) (D.state device.old).shown (D.state device.new).shown }
+    ensures others { ShowsSameOutside (InArea area) (D.state device.old).shown
+        (D.state device.new).shown }
     ensures no_sync { (D.state device.new).past ≡ (D.state device.old).past }
-    ensures size { D.blocks device.new ≡ D.blocks device.old }
-    ensures count { D.reads device.new ≡ D.reads device.old }
-    ensures cause { HasCause (D.faults device.old) (D.faults device.new) result }
+    ensures calls { OnlyWrites D.Device (IsErr result) device.old device.new }
 {
     write_pages(device, geometry, area, bytes, page)?;
     close_edits(device, geometry, area, page)
@@ -77,13 +136,14 @@ fn write_pages<D: Device>(
     requires area { area < 2 }
     requires within { 868 ≤ D.blocks device.old }
     requires room { length bytes.now ≤ 305 * 4096 }
-    ensures written { OnOk result (AreWritten (λ k. area_block area + k) (page_of bytes.now) (page_count bytes.now) (D.state device.new).shown) }
+    ensures written { OnOk result (AreWritten
+        (λ k. area_block area + k) (page_of bytes.now) (page_count bytes.now)
+        (D.state device.new).shown) }
     ensures confined { ConfinedTo (InArea area) (D.state device.old) (D.state device.new) }
-    ensures others { ShowsSameOutside (InArea area) (D.state device.old).shown (D.state device.new).shown }
+    ensures others { ShowsSameOutside (InArea area) (D.state device.old).shown
+        (D.state device.new).shown }
     ensures no_sync { (D.state device.new).past ≡ (D.state device.old).past }
-    ensures size { D.blocks device.new ≡ D.blocks device.old }
-    ensures count { D.reads device.new ≡ D.reads device.old }
-    ensures cause { HasCause (D.faults device.old) (D.faults device.new) result }
+    ensures calls { OnlyWrites D.Device (IsErr result) device.old device.new }
 {
     let first = geometry.area(area);
     for block in 0..bytes.len().div_ceil(Page::LEN) {
@@ -114,14 +174,14 @@ fn close_edits<D: Device>(
 ) -> Result<(), Failed>
     requires area { area < 2 }
     requires within { 868 ≤ D.blocks device.old }
-    ensures written { OnOk result (AreWritten (edit_gate area) (λ k. gate_page false) edit_slots (D.state device.new).shown) }
+    ensures written { OnOk result (AreWritten (edit_gate area)
+        (λ k. gate_page false) edit_slots (D.state device.new).shown) }
     ensures confined { ConfinedTo (InEdits area) (D.state device.old) (D.state device.new) }
-    ensures others { ShowsSameOutside (InEdits area) (D.state device.old).shown (D.state device.new).shown }
+    ensures others { ShowsSameOutside (InEdits area) (D.state device.old).shown
+        (D.state device.new).shown }
     ensures kept { ComesFrom (InEdits area) (D.state device.old).shown (D.state device.new).shown }
     ensures no_sync { (D.state device.new).past ≡ (D.state device.old).past }
-    ensures size { D.blocks device.new ≡ D.blocks device.old }
-    ensures count { D.reads device.new ≡ D.reads device.old }
-    ensures cause { HasCause (D.faults device.old) (D.faults device.new) result }
+    ensures calls { OnlyWrites D.Device (IsErr result) device.old device.new }
 {
     write_gate(page, false);
     for slot in 0..64u8 {

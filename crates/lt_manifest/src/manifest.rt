@@ -3,9 +3,8 @@
 ghost use Rattle.std.specs.Prelude.{◌≡◌, ℕ, ◌-◌, ◌^◌, ◌<◌, ◌≤◌, Some, Ok, Err, IfOk, IsErrOf, OnOk, IsTrue};
 ghost use Rattle.std.specs.Option.{ForSome};
 ghost use Rattle.lt_terms.specs.Bytes.{Image};
-ghost use Rattle.lt_terms.specs.Causes.{Rose};
-ghost use Rattle.lt_device.specs.Moments.{MayLeave, Leaves, ConfinedTo, UnsyncedIn, ShowsSameOutside};
-ghost use Rattle.lt_device.specs.Reads.{CountsAtMost};
+ghost use Rattle.lt_device.specs.Calls.{OnlyReads, OnlyWrites};
+ghost use Rattle.lt_device.specs.Moments.{Leaves, ConfinedTo, UnsyncedIn, ShowsSameOutside, MayOnlyLeave};
 ghost use Rattle.lt_format.specs.Layout.{is_geometry, blocks_needed};
 ghost use Rattle.lt_format.specs.Snapshot.{extents_stand, snapshot_bytes};
 ghost use Rattle.lt_format.specs.Naming.{InManifest, manifest_in, may_commit, after_commit};
@@ -14,10 +13,9 @@ ghost use Rattle.lt_manifest.specs.Moments.{Names, HasNew, HasOldOrNew, EditsClo
 ghost use Rattle.lt_manifest.specs.Opened.{IsKept, IsOpened, InSnapshot, fresh};
 ghost use Rattle.lt_manifest.specs.Written.{HasSelected, InSelected};
 
-use crate::area::{fill_area, fill_selector};
-use crate::reading::read_snapshot;
-use crate::replacing::replace;
-use crate::spelling::{snapshot_room, spell};
+use crate::area::{fill_area, fill_selector, replace};
+use crate::snapshot::reading::read_snapshot;
+use crate::snapshot::spelling::{snapshot_room, spell};
 use lt_device::Device;
 use lt_format::{Geometry, Header};
 use lt_layout::{OpenFault, selected};
@@ -58,24 +56,27 @@ impl Manifest {
     ) -> Result<(), CommitFault>
         requires valid { IsTrue (is_geometry geometry.now) }
         requires stands { IsTrue (extents_stand geometry.now (D.blocks device.old) extents) }
-        ensures named { OnOk result (ForSome (D.state device.new).shown (λ image. manifest_in geometry.now image ≡ Ok (fresh geometry.now extents))) }
+        ensures named { OnOk result (ForSome (D.state device.new).shown
+            (λ image. manifest_in geometry.now image ≡ Ok (fresh geometry.now extents))) }
         ensures gates { OnOk result (ForSome (D.state device.new).shown (EditsClosed 0)) }
-        ensures written { OnOk result (ForSome (D.state device.new).shown (HasSelected 0 (snapshot_bytes (fresh geometry.now extents).manifest))) }
+        ensures written { OnOk result (ForSome (D.state device.new).shown
+            (HasSelected 0 (snapshot_bytes (fresh geometry.now extents).manifest))) }
 
         // Whatever it answers, it touches no other block and syncs nothing.
         ensures confined { ConfinedTo InManifest (D.state device.old) (D.state device.new) }
-        ensures others { ShowsSameOutside InManifest (D.state device.old).shown (D.state device.new).shown }
+        ensures others { ShowsSameOutside InManifest (D.state device.old).shown
+            (D.state device.new).shown }
 
         // Nor any block of area 1.
-        ensures area_confined { ConfinedTo (InSelected 0) (D.state device.old) (D.state device.new) }
-        ensures area_others { ShowsSameOutside (InSelected 0) (D.state device.old).shown (D.state device.new).shown }
+        ensures area_confined { ConfinedTo (InSelected 0) (D.state device.old)
+            (D.state device.new) }
+        ensures area_others { ShowsSameOutside (InSelected 0) (D.state device.old).shown
+            (D.state device.new).shown }
         ensures no_sync { (D.state device.new).past ≡ (D.state device.old).past }
 
         ensures no_memory { IsErrOf result CommitFault.NoMemory → device.new ≡ device.old }
-        ensures size { D.blocks device.new ≡ D.blocks device.old }
-        ensures count { D.reads device.new ≡ D.reads device.old }
-        ensures later { D.faults device.old ≤ D.faults device.new }
-        ensures cause { IsErrOf result CommitFault.Device → Rose (D.faults device.old) (D.faults device.new) }
+        ensures calls { OnlyWrites D.Device (IsErrOf result CommitFault.Device)
+            device.old device.new }
     {
         let header = Header {
             log_area: 0,
@@ -83,7 +84,7 @@ impl Manifest {
             writes: 0,
         };
         let mut page = Page::new(alloc)?;
-        let mut bytes = snapshot_room(alloc)?;
+        let mut bytes = snapshot_room(alloc, 0)?;
         spell(&mut bytes, &header, &[]);
         fill_area(device, geometry, 0, &bytes, &mut page)?;
         fill_selector(&mut page, 0);
@@ -100,18 +101,17 @@ impl Manifest {
     ) -> Result<Manifest, OpenFault>
         requires valid { IsTrue (is_geometry geometry.now) }
         requires room { blocks_needed geometry.now 0 ≤ D.blocks device.old }
-        ensures read { IfOk result (λ manifest. ForSome (D.state device.old).shown (λ image. manifest_in geometry.now image ≡ Ok manifest)) }
+        ensures read { IfOk result (λ manifest. ForSome (D.state device.old).shown
+            (λ image. manifest_in geometry.now image ≡ Ok manifest)) }
 
         // Whatever the device tells.
         ensures stands { IfOk result (IsOpened geometry.now (D.blocks device.old)) }
 
-        ensures damaged { (b : ℕ) → IsErrOf result (OpenFault.Damaged b) → ForSome (D.state device.old).shown (λ image. manifest_in geometry.now image ≡ Err b) }
+        ensures damaged { (b : ℕ) → IsErrOf result (OpenFault.Damaged b)
+            → ForSome (D.state device.old).shown (λ image. manifest_in geometry.now image ≡ Err b) }
         ensures damaged_block { (b : ℕ) → IsErrOf result (OpenFault.Damaged b) → InSnapshot b }
-        ensures cause { IsErrOf result OpenFault.Device → Rose (D.faults device.old) (D.faults device.new) }
-        ensures later { D.faults device.old ≤ D.faults device.new }
-        ensures state { D.state device.new ≡ D.state device.old }
-        ensures size { D.blocks device.new ≡ D.blocks device.old }
-        ensures count { CountsAtMost 306 (D.reads device.old) (D.reads device.new) }
+        ensures calls { OnlyReads D.Device 306 (IsErrOf result OpenFault.Device)
+            device.old device.new }
     {
         let mut page = Page::new(alloc)?;
         device.read(1, &mut page)?;
@@ -123,6 +123,13 @@ impl Manifest {
             header,
             trie,
         })
+    }
+
+    pub fn geometry(&self) -> &Geometry
+        ensures geometry { result.now ≡ self.now.geometry }
+        ensures kept { IsKept self.now }
+    {
+        &self.geometry
     }
 
     pub fn header(&self) -> Header
@@ -151,43 +158,51 @@ impl Manifest {
         change: &Change,
         header: &Header,
     ) -> Result<(), CommitFault>
-        requires stands { IsTrue (extents_stand self.old.geometry (D.blocks device.old) self.old.manifest.header.extents) }
-        requires may { IsTrue (may_commit self.old.geometry.levels self.old.manifest (change_of change.now) header.now) }
+        requires stands { IsTrue (extents_stand self.old.geometry
+            (D.blocks device.old) self.old.manifest.header.extents) }
+        requires may { IsTrue (may_commit self.old.geometry.levels self.old.manifest
+            (change_of change.now) header.now) }
 
         ensures geometry { self.new.geometry ≡ self.old.geometry }
-        ensures changed { OnOk result (self.new.manifest ≡ after_commit self.old.manifest (change_of change.now) header.now) }
+        ensures changed { OnOk result (self.new.manifest
+            ≡ after_commit self.old.manifest (change_of change.now) header.now) }
         ensures area { OnOk result (self.new.area ≡ 1 - self.old.area) }
 
         // Each image since the start names the manifest as it was, or the new one.
         ensures any_moment { (shown : Image) → (D.state device.old).shown ≡ Some shown
-            → ((left : Image) → MayLeave (D.state device.old) left → Names self.old left)
-            → Leaves (HasOldOrNew self.old (after_commit self.old.manifest (change_of change.now) header.now) shown) (D.state device.old) (D.state device.new) }
+            → MayOnlyLeave (Names self.old) (D.state device.old)
+            → Leaves (HasOldOrNew self.old
+            (after_commit self.old.manifest (change_of change.now) header.now) shown)
+            (D.state device.old) (D.state device.new) }
 
         // After Ok only the latter.
         ensures committed { OnOk result ((shown : Image) → (D.state device.old).shown ≡ Some shown
-            → ((left : Image) → MayLeave (D.state device.old) left → Names self.old left)
-            → (left : Image) → MayLeave (D.state device.new) left → HasNew self.new shown left) }
-        ensures gates { OnOk result ((left : Image) → MayLeave (D.state device.new) left → EditsClosed self.new.area left) }
-        ensures written { OnOk result ((left : Image) → MayLeave (D.state device.new) left → HasSelected self.new.area (snapshot_bytes self.new.manifest) left) }
+            → MayOnlyLeave (Names self.old) (D.state device.old)
+            → MayOnlyLeave (HasNew self.new shown) (D.state device.new)) }
+        ensures gates { OnOk result (MayOnlyLeave (EditsClosed self.new.area)
+            (D.state device.new)) }
+        ensures written { OnOk result (MayOnlyLeave
+            (HasSelected self.new.area (snapshot_bytes self.new.manifest)) (D.state device.new)) }
         ensures sure { OnOk result (UnsyncedIn (λ _. ⊥) (D.state device.new)) }
 
         // Whatever it answers, it touches no other block.
         ensures confined { ConfinedTo InManifest (D.state device.old) (D.state device.new) }
-        ensures others { ShowsSameOutside InManifest (D.state device.old).shown (D.state device.new).shown }
+        ensures others { ShowsSameOutside InManifest (D.state device.old).shown
+            (D.state device.new).shown }
 
         // Nor any block of the area that was current.
-        ensures area_confined { ConfinedTo (InSelected (1 - self.old.area)) (D.state device.old) (D.state device.new) }
-        ensures area_others { ShowsSameOutside (InSelected (1 - self.old.area)) (D.state device.old).shown (D.state device.new).shown }
+        ensures area_confined { ConfinedTo (InSelected (1 - self.old.area)) (D.state device.old)
+            (D.state device.new) }
+        ensures area_others { ShowsSameOutside (InSelected (1 - self.old.area))
+            (D.state device.old).shown (D.state device.new).shown }
 
         ensures no_memory { IsErrOf result CommitFault.NoMemory → device.new ≡ device.old }
         ensures unchanged { IsErrOf result CommitFault.NoMemory → self.new ≡ self.old }
-        ensures size { D.blocks device.new ≡ D.blocks device.old }
-        ensures count { D.reads device.new ≡ D.reads device.old }
-        ensures later { D.faults device.old ≤ D.faults device.new }
-        ensures cause { IsErrOf result CommitFault.Device → Rose (D.faults device.old) (D.faults device.new) }
+        ensures calls { OnlyWrites D.Device (IsErrOf result CommitFault.Device)
+            device.old device.new }
     {
         let mut page = Page::new(alloc)?;
-        let mut bytes = snapshot_room(alloc)?;
+        let mut bytes = snapshot_room(alloc, header.extents)?;
         self.trie.apply(alloc, change)?;
         self.header = kept(*header);
         spell(&mut bytes, &self.header, self.trie.nodes());

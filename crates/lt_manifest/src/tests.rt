@@ -5,8 +5,8 @@ ghost use Rattle.lt_format.specs.Changes.{new_extents};
 ghost use Rattle.lt_format.specs.Naming.{log_moves, may_commit};
 ghost use Rattle.lt_node.specs.Changing.{change_of};
 
-use crate::front::has_room;
 use crate::manifest::Manifest;
+use crate::snapshot::header::has_room;
 use lt_device::{Device, MemDevice, Pick, Steady};
 use lt_format::{Geometry, Header, NodeId};
 use lt_layout::OpenFault;

@@ -1,7 +1,7 @@
 -- Marks of numbers, and numbers that are new beside marked ones.
 use Rattle.std.proofs.Common.{◌≡◌, ◌≢◌, ℕ, zero, suc, ◌+◌, ◌<◌, refl, sym, ap, subst, ◌∙◌, Bool, true, false, not, ◌&&◌, ◌||◌, List, [], ◌∷◌, ◌++◌, length, get_or, set, take, drop, replicate, map, append_assoc, append-nil, IsTrue, arith, ⊎_elim}
 use Rattle.std.specs.Prelude.{◌==◌, nat_lt}
-use Rattle.std.specs.List.{list_all}
+use Rattle.std.specs.List.{flat_map, list_all}
 use Rattle.std.proofs.lemmas.Bool.{and_parts, and_from, true≢false, cases_eq, eq-eqb, ne_eqb, ltb-true, lt-ltb, or_right}
 use Rattle.std.proofs.lemmas.List.{get_or-set_same, get_or-set_other, get_or-replicate, take_more, take-append-drop, length-set, length-replicate, map-append}
 use Rattle.std.proofs.lemmas.List.Folds.{list_all-append}
@@ -12,7 +12,7 @@ use Rattle.lt_format.specs.declared.node_id.NodeId.{NodeId}
 use Rattle.lt_format.specs.Trie.{Node, Trie, node_extents, named, all_distinct, all_below}
 use Rattle.lt_format.specs.Changes.{ChildChange, are_new}
 use Rattle.lt_node.specs.declared.change.ChildChange.{ChildChange as Child}
-use Rattle.lt_node.specs.Changing.{child_of}
+use Rattle.lt_node.specs.Changing.{child_of, freed_groups}
 use Rattle.lt_node.specs.Marks.{AreMarks, are_fresh, TellsNew, given_extents}
 use Rattle.lt_tables.proofs.FilterLaws.{in_append, eqb_sym}
 
@@ -196,6 +196,14 @@ given_more children i d within =
     ap (λ cs. given_extents (map child_of cs)) (take_more children i d within) ∙ ap given_extents (map-append child_of (take i children) (get_or children i d ∷ []))
     ∙ flat_map-append (λ (c : ChildChange). c.tables ++ c.groups) (map child_of (take i children)) (child_of (get_or children i d) ∷ [])
     ∙ ap (λ r. given_extents (map child_of (take i children)) ++ r) (append-nil ((get_or children i d).tables ++ (get_or children i d).groups))
+
+-- one more child's groups that it does not keep
+pub freed_more : (trie : Trie) (children : List Child) (i : ℕ) (d : Child) → i < length children
+    → flat_map (freed_groups trie) (map child_of (take (i + 1) children)) ≡ flat_map (freed_groups trie) (map child_of (take i children)) ++ freed_groups trie (child_of (get_or children i d))
+freed_more trie children i d within =
+    ap (λ cs. flat_map (freed_groups trie) (map child_of cs)) (take_more children i d within) ∙ ap (flat_map (freed_groups trie)) (map-append child_of (take i children) (get_or children i d ∷ []))
+    ∙ flat_map-append (freed_groups trie) (map child_of (take i children)) (child_of (get_or children i d) ∷ [])
+    ∙ ap (λ r. flat_map (freed_groups trie) (map child_of (take i children)) ++ r) (append-nil (freed_groups trie (child_of (get_or children i d))))
 
 pub given_cut : (children : List Child) (i : ℕ) → given_extents (map child_of children) ≡ given_extents (map child_of (take i children)) ++ given_extents (map child_of (drop i children))
 given_cut children i =

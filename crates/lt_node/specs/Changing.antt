@@ -1,5 +1,5 @@
 -- The changes as values of the program, and the nodes that they set.
-use Rattle.std.specs.Prelude.{Bool, ◌||◌, [], ◌∷◌, ◌++◌, length, map}
+use Rattle.std.specs.Prelude.{ℕ, Bool, ◌||◌, List, [], ◌∷◌, ◌++◌, length, map, drop}
 use Rattle.std.specs.List.{list_any}
 use Rattle.lt_format.specs.declared.node_id.NodeId.{NodeId}
 use Rattle.lt_format.specs.Trie.{Node, Trie, root, same_node, node_at, with_node}
@@ -26,14 +26,21 @@ with_entry trie e = with_node trie e.0 e.1
 abbrev pub dealt_entry : Trie → format.ChildChange → NodeId × Node
 dealt_entry trie c = (c.node, format.child_after (node_at trie c.node) c)
 
+-- the groups of a child that a deal does not keep
+abbrev pub freed_groups : Trie → format.ChildChange → List ℕ
+freed_groups trie c = drop c.kept_groups (node_at trie c.node).groups
+
 -- the nodes that a change sets, each as it is then
 abbrev pub changed : Trie → format.Change → Trie
 changed trie (format.flush tables) = (root, format.appended (node_at trie root) tables) ∷ []
-changed trie (format.deal node dropped children) = map (dealt_entry trie) children ++ (node, format.without_oldest (node_at trie node) dropped) ∷ []
-changed trie (format.rewrite node tables groups) = (node, record { base = length tables; tables = tables; groups = groups }) ∷ []
+changed trie (format.deal node dropped children) =
+    map (dealt_entry trie) children ++ (node, format.without_oldest (node_at trie node) dropped) ∷ []
+changed trie (format.rewrite node tables groups) =
+    (node, record { base = length tables; tables = tables; groups = groups }) ∷ []
 
 -- whether the change sets the node
 abbrev pub sets : format.Change → NodeId → Bool
 sets (format.flush tables) id = same_node id root
-sets (format.deal node dropped children) id = same_node id node || list_any (λ (c : format.ChildChange). same_node id c.node) children
+sets (format.deal node dropped children) id =
+    same_node id node || list_any (λ (c : format.ChildChange). same_node id c.node) children
 sets (format.rewrite node tables groups) id = same_node id node

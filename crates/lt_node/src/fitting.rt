@@ -15,19 +15,16 @@ const EXTENTS: usize = 65536;
 
 /// Whether the change fits the trie.
 #[tactic(auto, unfolding(lt_format::specs::Changes::fits))]
-pub fn fits(trie: &Trie, levels: u8, change: &Change) -> bool
-    requires levels { trie.now.levels ≡ levels }
-    requires most { levels ≤ 5 }
+pub fn fits(trie: &Trie, change: &Change) -> bool
     ensures { result ≡ fits trie.now.levels trie.now.nodes (change_of change.now) }
 {
-    shape_fits(trie, levels, change) && are_new::<EXTENTS>(trie.nodes(), change)
+    shape_fits(trie, change) && are_new::<EXTENTS>(trie.nodes(), change)
 }
 
-fn shape_fits(trie: &Trie, levels: u8, change: &Change) -> bool
-    requires levels { trie.now.levels ≡ levels }
-    requires most { levels ≤ 5 }
+fn shape_fits(trie: &Trie, change: &Change) -> bool
     ensures { result ≡ shape_fits trie.now.levels trie.now.nodes (change_of change.now) }
 {
+    let levels = trie.levels();
     match change {
         Change::Flush { tables } => tables.list().len() >= 1,
         Change::Deal {
@@ -39,7 +36,7 @@ fn shape_fits(trie: &Trie, levels: u8, change: &Change) -> bool
                 && !is_last_level(levels, *node)
                 && *dropped >= 1
                 && *dropped as usize <= trie.pile(*node).len()
-                && children_fit(trie, levels, *node, children.list())
+                && children_fit(trie, *node, children.list())
         }
         Change::Rewrite {
             node,
@@ -55,13 +52,13 @@ fn shape_fits(trie: &Trie, levels: u8, change: &Change) -> bool
 
 /// Whether these are children of the node in rising number, each with a table, and with the groups
 /// that its level wants.
-fn children_fit(trie: &Trie, levels: u8, node: NodeId, children: &[ChildChange]) -> bool
-    requires { trie.now.levels ≡ levels }
-    ensures { result ≡ children_fit trie.now.levels trie.now.nodes node (8 * node.number) (map child_of children.now) }
+fn children_fit(trie: &Trie, node: NodeId, children: &[ChildChange]) -> bool
+    ensures { result
+        ≡ children_fit trie.now.levels trie.now.nodes node (8 * node.number) (map child_of children.now) }
 {
     let mut from = 8 * node.number as u32;
     for child in children {
-        if !child_fits(trie, levels, node, from, child) {
+        if !child_fits(trie, node, from, child) {
             return false;
         }
         from = child.node.number as u32 + 1;
@@ -69,8 +66,7 @@ fn children_fit(trie: &Trie, levels: u8, node: NodeId, children: &[ChildChange])
     true
 }
 
-fn child_fits(trie: &Trie, levels: u8, node: NodeId, from: u32, child: &ChildChange) -> bool
-    requires { trie.now.levels ≡ levels }
+fn child_fits(trie: &Trie, node: NodeId, from: u32, child: &ChildChange) -> bool
     ensures { result ≡ child_fits trie.now.levels trie.now.nodes node from (child_of child.now) }
 {
     child.node.level as u32 == node.level as u32 + 1
@@ -78,7 +74,7 @@ fn child_fits(trie: &Trie, levels: u8, node: NodeId, from: u32, child: &ChildCha
         && (child.node.number as u32) < 8 * node.number as u32 + 8
         && child.tables.list().len() >= 1
         && groups_fit(
-            is_last_level(levels, child.node),
+            is_last_level(trie.levels(), child.node),
             trie.pile(child.node).len(),
             child,
         )
@@ -141,7 +137,8 @@ fn mark_change(marks: &mut [bool], change: &Change) -> bool
 /// Marks the extents that nodes name.
 fn mark_nodes(marks: &mut [bool], nodes: &[NodeEntry])
     requires { IsTrue (all_below (length marks.old) (named nodes.now)) }
-    ensures { (seen : List ℕ) → AreMarks marks.old seen → AreMarks marks.new (seen ++ named nodes.now) }
+    ensures { (seen : List ℕ) → AreMarks marks.old seen
+        → AreMarks marks.new (seen ++ named nodes.now) }
 {
     for entry in nodes {
         mark_node(marks, entry);
@@ -150,7 +147,8 @@ fn mark_nodes(marks: &mut [bool], nodes: &[NodeEntry])
 
 fn mark_node(marks: &mut [bool], entry: &NodeEntry)
     requires { IsTrue (all_below (length marks.old) (node_extents entry.now.1)) }
-    ensures { (seen : List ℕ) → AreMarks marks.old seen → AreMarks marks.new (seen ++ node_extents entry.now.1) }
+    ensures { (seen : List ℕ) → AreMarks marks.old seen
+        → AreMarks marks.new (seen ++ node_extents entry.now.1) }
 {
     mark(marks, entry.tables());
     mark(marks, entry.groups());

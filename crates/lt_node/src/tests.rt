@@ -143,6 +143,25 @@ fn rewritings_replace_a_pile(rt: HostRuntime) -> Result<(), Fail> {
 }
 
 #[test]
+fn extents_that_a_change_frees(rt: HostRuntime) -> Result<(), Fail> {
+    let alloc = rt.alloc();
+    let mut trie = flushed(alloc, 2)?;
+    let flushed = flush(alloc, &[9])?;
+    assert_eq!(rt; trie.freed(alloc, &flushed)?.as_slice(), [].as_slice());
+    let first = deal(alloc, CHILD, &[11], 0, &[1])?;
+    assert_eq!(rt; trie.freed(alloc, &first)?.as_slice(), [7].as_slice());
+    assert!(rt; make(alloc, &mut trie, first)?);
+    let second = deal(alloc, CHILD, &[12], 0, &[2])?;
+    assert_eq!(rt; trie.freed(alloc, &second)?.as_slice(), [5, 1].as_slice());
+    let rewriting = rewrite(alloc, CHILD, &[12], &[2])?;
+    assert_eq!(rt;
+        trie.freed(alloc, &rewriting)?.as_slice(),
+        [11, 1].as_slice()
+    );
+    Ok(())
+}
+
+#[test]
 fn extents_that_are_not_new(rt: HostRuntime) -> Result<(), Fail> {
     let alloc = rt.alloc();
     let mut trie = flushed(alloc, 2)?;

@@ -1,11 +1,13 @@
 //! The trie of piles.
 
-ghost use Rattle.std.specs.Prelude.{◌≡◌, ◌≤◌, ◌<◌, ◌^◌, [], ◌∷◌, ◌++◌, IfOk, OnOk, OnErr, IsTrue, map, take, drop, length};
+ghost use Rattle.std.specs.Prelude.{◌≡◌, ◌≤◌, ◌<◌, ◌^◌, [], ◌∷◌, ◌++◌, IfOk, OnOk, OnErr, IsTrue, map};
+ghost use Rattle.std.specs.Prelude.{take, drop, length};
+ghost use Rattle.std.specs.List.{flat_map};
 ghost use Rattle.lt_format.specs.Trie.{root, named, node_extents, table_total, node_at, with_node, is_node, is_shaped};
-ghost use Rattle.lt_format.specs.Changes.{are_new, fits, after_change, appended, without_oldest};
+ghost use Rattle.lt_format.specs.Changes.{are_new, fits, after_change, appended, freed, without_oldest};
 ghost use Rattle.lt_node.specs.View.{IsView};
 ghost use Rattle.lt_node.specs.Places.{IsFound};
-ghost use Rattle.lt_node.specs.Changing.{change_of, child_of, changed, dealt_entry};
+ghost use Rattle.lt_node.specs.Changing.{change_of, child_of, changed, dealt_entry, freed_groups};
 
 use crate::change::{Change, ChildChange};
 use crate::entry::NodeEntry;
@@ -48,6 +50,14 @@ impl Trie {
             nodes: Vec::new(alloc),
             tables: 0,
         })
+    }
+
+    /// How many levels the trie has, 2 to 5.
+    pub fn levels(&self) -> u8
+        ensures count { result ≡ self.now.levels }
+        ensures trie { IsView self.now }
+    {
+        self.levels
     }
 
     /// A node's pile, the oldest table first. Empty where the trie does not have the node.
@@ -110,9 +120,13 @@ impl Trie {
         groups: Numbers,
     ) -> Result<(), NoMemory>
         requires node { IsTrue (is_node self.old.levels node) }
-        requires shaped { IsTrue (is_shaped self.old.levels 65536 node (record { base = base; tables = tables; groups = groups })) }
+        requires shaped { IsTrue (is_shaped self.old.levels 65536 node
+            (record { base = base; tables = tables; groups = groups })) }
         requires new { IsTrue (are_new 65536 self.old.nodes (tables ++ groups)) }
-        ensures ok { OnOk result (self.new ≡ record self.old { nodes = with_node self.old.nodes node (record { base = base; tables = tables; groups = groups }) }) }
+        ensures ok { OnOk result (self.new ≡ record self.old {
+          nodes = with_node self.old.nodes node
+              (record { base = base; tables = tables; groups = groups });
+        }) }
         ensures err { OnErr result (self.new ≡ self.old) }
     {
         self.nodes.reserve(1)?;
@@ -129,13 +143,14 @@ impl Trie {
     pub fn fits(&self, change: &Change) -> bool
         ensures { result ≡ fits self.now.levels self.now.nodes (change_of change.now) }
     {
-        fitting::fits(self, self.levels, change)
+        fitting::fits(self, change)
     }
 
     /// Makes a change that fits. After an `Err` the trie is as before.
     pub fn apply(&mut self, alloc: Global, change: &Change) -> Result<(), NoMemory>
         requires { IsTrue (fits self.old.levels self.old.nodes (change_of change.now)) }
-        ensures ok { OnOk result (self.new ≡ record self.old { nodes = after_change self.old.nodes (change_of change.now) }) }
+        ensures ok { OnOk result (self.new
+            ≡ record self.old { nodes = after_change self.old.nodes (change_of change.now) }) }
         ensures err { OnErr result (self.new ≡ self.old) }
     {
         let entries = self.changed(alloc, change)?;
@@ -143,6 +158,28 @@ impl Trie {
         set_all(&mut self.nodes, entries);
         self.tables = count_tables(&self.nodes);
         Ok(())
+    }
+
+    /// The extents that the trie no longer names once this change is made. Taken before a commit, so that
+    /// giving them back afterwards needs no memory.
+    pub fn freed(&self, alloc: Global, change: &Change) -> Result<Vec<u32>, NoMemory>
+        ensures { IfOk result (λ extents.
+            extents.items ≡ freed self.now.nodes (change_of change.now)) }
+    {
+        match change {
+            Change::Flush { .. } => Ok(Vec::new(alloc)),
+            Change::Deal {
+                node,
+                dropped,
+                children,
+            } => {
+                let dealt = front(self.pile(*node), *dropped as usize);
+                let mut extents = Vec::from_slice(alloc, dealt)?;
+                self.free_groups(&mut extents, children.list())?;
+                Ok(extents)
+            }
+            Change::Rewrite { node, .. } => joined(alloc, self.pile(*node), self.groups(*node)),
+        }
     }
 
     /// The extents that the trie names: of each node the tables and then the groups.
@@ -165,7 +202,8 @@ impl Trie {
     /// The nodes that a change sets, each as it is then.
     fn changed(&self, alloc: Global, change: &Change) -> Result<Vec<NodeEntry>, NoMemory>
         requires { IsTrue (fits self.now.levels self.now.nodes (change_of change.now)) }
-        ensures { IfOk result (λ entries. entries.items ≡ changed self.now.nodes (change_of change.now)) }
+        ensures { IfOk result (λ entries.
+            entries.items ≡ changed self.now.nodes (change_of change.now)) }
     {
         match change {
             Change::Flush { tables } => {
@@ -194,7 +232,8 @@ impl Trie {
 
     /// The root with tables behind its pile.
     fn flushed(&self, alloc: Global, tables: &[u32]) -> Result<NodeEntry, NoMemory>
-        ensures { IfOk result (λ entry. entry ≡ (root, appended (node_at self.now.nodes root) tables.now)) }
+        ensures { IfOk result (λ entry.
+            entry ≡ (root, appended (node_at self.now.nodes root) tables.now)) }
     {
         let root = NodeId {
             level: 0,
@@ -210,7 +249,8 @@ impl Trie {
 
     /// The children of a deal with what it gives them.
     fn given(&self, alloc: Global, children: &[ChildChange]) -> Result<Vec<NodeEntry>, NoMemory>
-        ensures { IfOk result (λ entries. entries.items ≡ map (dealt_entry self.now.nodes) (map child_of children.now)) }
+        ensures { IfOk result (λ entries.
+            entries.items ≡ map (dealt_entry self.now.nodes) (map child_of children.now)) }
     {
         let mut entries = Vec::new(alloc);
         for child in children {
@@ -232,9 +272,23 @@ impl Trie {
         ))
     }
 
+    /// Puts the groups that children do not keep behind the others.
+    fn free_groups(&self, extents: &mut Vec<u32>, children: &[ChildChange]) -> Result<(), NoMemory>
+        ensures { OnOk result (extents.new.items
+            ≡ extents.old.items
+            ++ flat_map (freed_groups self.now.nodes) (map child_of children.now)) }
+    {
+        for child in children {
+            let groups = behind(self.groups(child.node), child.kept_groups as usize);
+            extents.extend_from_slice(groups)?;
+        }
+        Ok(())
+    }
+
     /// A node without its oldest tables.
     fn taken(&self, alloc: Global, node: NodeId, dropped: usize) -> Result<NodeEntry, NoMemory>
-        ensures { IfOk result (λ entry. entry ≡ (node, without_oldest (node_at self.now.nodes node) dropped)) }
+        ensures { IfOk result (λ entry.
+            entry ≡ (node, without_oldest (node_at self.now.nodes node) dropped)) }
     {
         Ok(NodeEntry::of(
             node,
@@ -253,7 +307,8 @@ fn rewritten(
     groups: &[u32],
 ) -> Result<NodeEntry, NoMemory>
     requires { length tables.now < 2 ^ 32 }
-    ensures { IfOk result (λ entry. entry ≡ (node, record { base = length tables.now; tables = tables.now; groups = groups.now })) }
+    ensures { IfOk result (λ entry. entry
+        ≡ (node, record { base = length tables.now; tables = tables.now; groups = groups.now })) }
 {
     Ok(NodeEntry::of(
         node,

@@ -5,7 +5,8 @@ use Rattle.lt_format.specs.declared.geometry.Geometry.{Geometry}
 use Rattle.lt_format.specs.Layout.{is_geometry, gate_page}
 use Rattle.lt_redo.specs.Group.{items_on, IsGathered}
 
--- the log area, the number of writes at its start, how many of its slots hold a group, the items of the open group, and whether the other area was cleared since the log came here
+-- the log area, the number of writes at its start, how many of its slots hold a group, the items of the open group,
+-- and whether the other area was cleared since the log came here
 pub record LogState : Type 0 where
   pub geometry : Geometry
   pub area : ℕ
@@ -13,6 +14,11 @@ pub record LogState : Type 0 where
   pub slots : ℕ
   pub pending : List Item
   pub cleared : Bool
+
+-- a log with this many groups, whose open group is empty, and whose other area is not known to be cleared
+abbrev pub idle_log : Geometry → ℕ → ℕ → ℕ → LogState
+idle_log g area writes slots =
+    record { geometry = g; area = area; writes = writes; slots = slots; pending = []; cleared = false }
 
 -- the other log area
 abbrev pub other_area : ℕ → ℕ
@@ -29,7 +35,8 @@ groups_with groups [] = groups
 groups_with groups (item ∷ items) = groups ++ (item ∷ items) ∷ []
 
 -- the pages that are kept: the open group's, and those of an open and of a closed gate
-pub record IsKept (geometry : Geometry) (area slots : ℕ) (content : List ℕ) (count used : ℕ) (opened closed : List ℕ) : Type 0 where
+pub record IsKept (geometry : Geometry) (area slots : ℕ) (content : List ℕ) (count used : ℕ)
+    (opened closed : List ℕ) : Type 0 where
   pub valid : IsTrue (is_geometry geometry)
   pub area_is : area < 2
   pub within : slots ≤ geometry.slots

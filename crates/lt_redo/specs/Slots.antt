@@ -15,11 +15,13 @@ pub record HasLog (g : Geometry) (b writes : ℕ) (groups : List (List Item)) (i
   pub read : log_groups g image b writes ≡ Ok groups
 
 -- it has these groups, or one more
-pub record HasLogOrLonger (g : Geometry) (b writes : ℕ) (groups : List (List Item)) (group : List Item) (image : Image) : Type 0 where
+pub record HasLogOrLonger (g : Geometry) (b writes : ℕ) (groups : List (List Item)) (group : List Item)
+    (image : Image) : Type 0 where
   pub either : HasLog g b writes groups image ⊎ HasLog g b writes (groups ++ group ∷ []) image
 
 -- this content spells the group, which may follow these
-pub record MayFollow (g : Geometry) (writes : ℕ) (groups : List (List Item)) (group : List Item) (content : List ℕ) : Type 0 where
+pub record MayFollow (g : Geometry) (writes : ℕ) (groups : List (List Item)) (group : List Item)
+    (content : List ℕ) : Type 0 where
   pub room : length groups < g.slots
   pub spelled : group_on content ≡ Some group
   pub fits : log_fits writes (items_in (groups ++ group ∷ [])) ≡ true

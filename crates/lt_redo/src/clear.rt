@@ -1,9 +1,9 @@
 //! Closing the gates of a log area.
 
-ghost use Rattle.std.specs.Prelude.{◌≡◌, ℕ, ◌+◌, ◌*◌, ◌≤◌, [], false, Some, OnOk};
+ghost use Rattle.std.specs.Prelude.{◌≡◌, ℕ, ◌+◌, ◌*◌, ◌≤◌, [], false, Some, IsErr, OnOk};
 ghost use Rattle.lt_terms.specs.Bytes.{Image};
-ghost use Rattle.lt_terms.specs.Causes.{HasCause};
-ghost use Rattle.lt_device.specs.Moments.{MayLeave, ConfinedTo, UnsyncedIn};
+ghost use Rattle.lt_device.specs.Calls.{OnlyWrites};
+ghost use Rattle.lt_device.specs.Moments.{ConfinedTo, UnsyncedIn, MayOnlyLeave};
 ghost use Rattle.lt_format.specs.Layout.{log_gate, gate_page};
 ghost use Rattle.lt_redo.specs.Slots.{HasLog, HasZeroGates, InLogArea, IsCleared};
 
@@ -20,14 +20,16 @@ pub fn clear_area<D: Device>(
 ) -> Result<(), Failed>
     requires within { log_gate geometry.now area geometry.now.slots ≤ D.blocks device.old }
     requires closes { closed.now ≡ gate_page false }
-    ensures cleared { OnOk result ((left : Image) → MayLeave (D.state device.new) left → IsCleared geometry.now area left) }
-    ensures zeros { OnOk result ((left : Image) → MayLeave (D.state device.new) left → HasZeroGates geometry.now area left) }
-    ensures empty { OnOk result ((writes : ℕ) (left : Image) → MayLeave (D.state device.new) left → HasLog geometry.now area writes [] left) }
-    ensures confined { ConfinedTo (InLogArea geometry.now area) (D.state device.old) (D.state device.new) }
+    ensures cleared { OnOk result (MayOnlyLeave (IsCleared geometry.now area)
+        (D.state device.new)) }
+    ensures zeros { OnOk result (MayOnlyLeave (HasZeroGates geometry.now area)
+        (D.state device.new)) }
+    ensures empty { OnOk result ((writes : ℕ)
+        → MayOnlyLeave (HasLog geometry.now area writes []) (D.state device.new)) }
+    ensures confined { ConfinedTo (InLogArea geometry.now area) (D.state device.old)
+        (D.state device.new) }
     ensures sure { OnOk result (UnsyncedIn (λ _. ⊥) (D.state device.new)) }
-    ensures size { D.blocks device.new ≡ D.blocks device.old }
-    ensures count { D.reads device.new ≡ D.reads device.old }
-    ensures cause { HasCause (D.faults device.old) (D.faults device.new) result }
+    ensures calls { OnlyWrites D.Device (IsErr result) device.old device.new }
 {
     close_gates(device, geometry, area, closed)?;
     device.sync()
@@ -42,12 +44,13 @@ pub fn close_gates<D: Device>(
 ) -> Result<(), Failed>
     requires within { log_gate geometry.now area geometry.now.slots ≤ D.blocks device.old }
     requires closes { closed.now ≡ gate_page false }
-    ensures closed { OnOk result ((image : Image) → (D.state device.new).shown ≡ Some image → IsCleared geometry.now area image) }
-    ensures zeros { OnOk result ((image : Image) → (D.state device.new).shown ≡ Some image → HasZeroGates geometry.now area image) }
-    ensures confined { ConfinedTo (InLogArea geometry.now area) (D.state device.old) (D.state device.new) }
-    ensures size { D.blocks device.new ≡ D.blocks device.old }
-    ensures count { D.reads device.new ≡ D.reads device.old }
-    ensures cause { HasCause (D.faults device.old) (D.faults device.new) result }
+    ensures closed { OnOk result ((image : Image) → (D.state device.new).shown ≡ Some image
+        → IsCleared geometry.now area image) }
+    ensures zeros { OnOk result ((image : Image) → (D.state device.new).shown ≡ Some image
+        → HasZeroGates geometry.now area image) }
+    ensures confined { ConfinedTo (InLogArea geometry.now area) (D.state device.old)
+        (D.state device.new) }
+    ensures calls { OnlyWrites D.Device (IsErr result) device.old device.new }
 {
     for slot in 0..geometry.slots {
         device.write(geometry.log_gate(area, slot), closed)?;

@@ -29,8 +29,10 @@ pub fn gather(page: &mut Page, used: u16, item: &ItemView<'_>) -> u16
 
 /// Writes the header, so that the page is the content of the group on it.
 pub fn finish(page: &mut Page, count: u16, used: u16)
-    ensures content { (items : List Item) → IsGathered page.old count used items → page.new ≡ group_page items }
-    ensures gathered { (items : List Item) → IsGathered page.old count used items → IsGathered page.new count used items }
+    ensures content { (items : List Item) → IsGathered page.old count used items
+        → page.new ≡ group_page items }
+    ensures gathered { (items : List Item) → IsGathered page.old count used items
+        → IsGathered page.new count used items }
 {
     page.fill_from(0, &count.to_be_bytes());
     page.fill_from(2, &used.to_be_bytes());

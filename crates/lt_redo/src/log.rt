@@ -1,18 +1,17 @@
 //! The log in memory: its open group, and its place on the device.
 
-ghost use Rattle.std.specs.Prelude.{◌≡◌, ℕ, ◌+◌, ◌*◌, ◌-◌, ◌<◌, ◌≤◌, ◌≢◌, ◌↔◌, [], ◌∷◌, ◌++◌, List, true, false, length, IsTrue, Err, IfOk, IsOk, IsErr, IsErrOf, OnOk, OnErr};
+ghost use Rattle.std.specs.Prelude.{◌≡◌, ℕ, ◌+◌, ◌*◌, ◌-◌, ◌<◌, ◌≤◌, ◌≢◌, ◌↔◌, [], ◌∷◌, ◌++◌, List, true, false};
+ghost use Rattle.std.specs.Prelude.{length, IsTrue, Err, IfOk, IsOk, IsErr, IsErrOf, OnOk, OnErr};
 ghost use Rattle.std.specs.List.{list_all};
 ghost use Rattle.std.specs.Option.{ForSome};
-ghost use Rattle.lt_terms.specs.Bytes.{Image};
-ghost use Rattle.lt_terms.specs.Causes.{HasCause, Rose};
 ghost use Rattle.lt_terms.specs.Items as terms;
 ghost use Rattle.lt_terms.specs.Items.{is_valid, item_cost, total_cost};
 ghost use Rattle.lt_item.specs.Views.{item_of};
-ghost use Rattle.lt_device.specs.Reads.{CountsAtMost};
-ghost use Rattle.lt_device.specs.Moments.{MayLeave, Leaves, ConfinedTo, UnsyncedIn};
+ghost use Rattle.lt_device.specs.Calls.{OnlyReads, OnlyWrites};
+ghost use Rattle.lt_device.specs.Moments.{Leaves, ConfinedTo, UnsyncedIn, MayOnlyLeave};
 ghost use Rattle.lt_format.specs.Layout.{is_geometry, extent_block};
 ghost use Rattle.lt_format.specs.Log.{group_room, group_page, log_fits, log_groups, items_in};
-ghost use Rattle.lt_redo.specs.LogState.{LogState, other_area, slots_with, groups_with};
+ghost use Rattle.lt_redo.specs.LogState.{LogState, idle_log, other_area, slots_with, groups_with};
 ghost use Rattle.lt_redo.specs.Opening.{HasItems};
 ghost use Rattle.lt_redo.specs.Slots.{InSlot, InLogArea, HasLog, HasLogOrLonger, HasZeroGates, HoldsPages, IsCleared};
 
@@ -84,15 +83,10 @@ impl Log {
         requires valid { IsTrue (is_geometry geometry.now) }
         requires area { area < 2 }
         requires within { extent_block geometry.now 0 ≤ D.blocks device.old }
-        ensures log { IfOk result (λ opened. opened.0 ≡ record {
-          geometry = geometry.now;
-          area = area;
-          writes = writes;
-          slots = opened.0.slots;
-          pending = [];
-          cleared = false;
-        }) }
-        ensures read { IfOk result (λ opened. ForSome (D.state device.old).shown (HasItems geometry.now area writes opened.0.slots opened.1.items)) }
+        ensures log { IfOk result
+            (λ opened. opened.0 ≡ idle_log geometry.now area writes opened.0.slots) }
+        ensures read { IfOk result (λ opened. ForSome (D.state device.old).shown
+            (HasItems geometry.now area writes opened.0.slots opened.1.items)) }
 
         // Whatever the device tells.
         ensures items { IfOk result (λ opened. IsTrue (list_all is_valid opened.1.items)) }
@@ -100,13 +94,14 @@ impl Log {
         ensures enough { IfOk result (λ opened. opened.0.slots ≤ length opened.1.items) }
         ensures within { IfOk result (λ opened. opened.0.slots ≤ geometry.now.slots) }
 
-        ensures damaged { (b : ℕ) → IsErrOf result (OpenFault.Damaged b) → ForSome (D.state device.old).shown (λ image. log_groups geometry.now image area writes ≡ Err b) }
-        ensures damaged_block { (b : ℕ) → IsErrOf result (OpenFault.Damaged b) → InLogArea geometry.now area b }
-        ensures cause { IsErrOf result OpenFault.Device → Rose (D.faults device.old) (D.faults device.new) }
-        ensures later { D.faults device.old ≤ D.faults device.new }
-        ensures state { D.state device.new ≡ D.state device.old }
-        ensures size { D.blocks device.new ≡ D.blocks device.old }
-        ensures count { CountsAtMost (2 * geometry.now.slots) (D.reads device.old) (D.reads device.new) }
+        ensures damaged { (b : ℕ) → IsErrOf result (OpenFault.Damaged b)
+            → ForSome (D.state device.old).shown
+            (λ image. log_groups geometry.now image area writes ≡ Err b) }
+        ensures damaged_block { (b : ℕ) → IsErrOf result (OpenFault.Damaged b)
+            → InLogArea geometry.now area b }
+        ensures calls { OnlyReads D.Device (2 * geometry.now.slots)
+            (IsErrOf result OpenFault.Device)
+            device.old device.new }
     {
         let mut page = Page::new(alloc)?;
         let (slots, read) = replay(alloc, device, geometry, area, writes, &mut page)?;
@@ -126,14 +121,7 @@ impl Log {
         requires valid { IsTrue (is_geometry geometry.now) }
         requires area { area < 2 }
         requires within { slots ≤ geometry.now.slots }
-        ensures { IfOk result (λ log. log ≡ record {
-          geometry = geometry.now;
-          area = area;
-          writes = writes;
-          slots = slots;
-          pending = [];
-          cleared = false;
-        }) }
+        ensures { IfOk result (λ log. log ≡ idle_log geometry.now area writes slots) }
     {
         content.clear();
         let mut opened = Page::new(alloc)?;
@@ -158,8 +146,10 @@ impl Log {
     /// more than 4,092 bytes, and then nothing changes.
     pub fn append(&mut self, item: &ItemView<'_>) -> Result<(), GroupFull>
         requires { IsTrue (is_valid (item_of item.now)) }
-        ensures ok { OnOk result (self.new ≡ record self.old { pending = self.old.pending ++ item_of item.now ∷ [] }) }
-        ensures full { IsErr result ↔ (group_room < total_cost self.old.pending + item_cost (item_of item.now)) }
+        ensures ok { OnOk result (self.new
+            ≡ record self.old { pending = self.old.pending ++ item_of item.now ∷ [] }) }
+        ensures full { IsErr result
+            ↔ (group_room < total_cost self.old.pending + item_cost (item_of item.now)) }
         ensures err { OnErr result (self.new ≡ self.old) }
     {
         if self.used + cost(item) > GROUP_ROOM {
@@ -196,30 +186,41 @@ impl Log {
     pub fn commit<D: Device>(&mut self, device: &mut D) -> Result<(), Failed>
         requires within { extent_block self.old.geometry 0 ≤ D.blocks device.old }
         requires room { 0 < length self.old.pending → self.old.slots < self.old.geometry.slots }
-        ensures ok { OnOk result (self.new ≡ record self.old { slots = slots_with self.old.slots self.old.pending; pending = [] }) }
+        ensures ok { OnOk result (self.new
+            ≡ record self.old {
+              slots = slots_with self.old.slots self.old.pending;
+              pending = [];
+            }) }
         ensures err { OnErr result (self.new ≡ self.old) }
         ensures idle { self.old.pending ≡ [] → (IsOk result × (device.new ≡ device.old)) }
 
         // Each image since the start has the log as before, or with the whole open group.
         ensures any_moment { (groups : List (List terms.Item)) → length groups ≡ self.old.slots
             → IsTrue (log_fits self.old.writes (items_in (groups ++ self.old.pending ∷ [])))
-            → ((left : Image) → MayLeave (D.state device.old) left → HasLog self.old.geometry self.old.area self.old.writes groups left)
-            → Leaves (HasLogOrLonger self.old.geometry self.old.area self.old.writes groups self.old.pending) (D.state device.old) (D.state device.new) }
+            → MayOnlyLeave (HasLog self.old.geometry self.old.area self.old.writes groups)
+            (D.state device.old)
+            → Leaves
+            (HasLogOrLonger self.old.geometry self.old.area self.old.writes groups self.old.pending)
+            (D.state device.old) (D.state device.new) }
 
         // After Ok only the latter.
-        ensures committed { OnOk result ((groups : List (List terms.Item)) → length groups ≡ self.old.slots
+        ensures committed { OnOk result ((groups : List (List terms.Item))
+            → length groups ≡ self.old.slots
             → IsTrue (log_fits self.old.writes (items_in (groups ++ self.old.pending ∷ [])))
-            → ((left : Image) → MayLeave (D.state device.old) left → HasLog self.old.geometry self.old.area self.old.writes groups left)
-            → (left : Image) → MayLeave (D.state device.new) left → HasLog self.old.geometry self.old.area self.old.writes (groups_with groups self.old.pending) left) }
+            → MayOnlyLeave (HasLog self.old.geometry self.old.area self.old.writes groups)
+            (D.state device.old)
+            → MayOnlyLeave (HasLog self.old.geometry self.old.area self.old.writes
+            (groups_with groups self.old.pending)) (D.state device.new)) }
 
         // The slot holds the group in its one spelling, whatever stood on the device before.
-        ensures spelled { OnOk result (0 < length self.old.pending → (left : Image) → MayLeave (D.state device.new) left
-            → HoldsPages self.old.geometry self.old.area self.old.slots (group_page self.old.pending) left) }
-        ensures confined { ConfinedTo (InSlot self.old.geometry self.old.area self.old.slots) (D.state device.old) (D.state device.new) }
-        ensures sure { OnOk result (0 < length self.old.pending → UnsyncedIn (λ _. ⊥) (D.state device.new)) }
-        ensures size { D.blocks device.new ≡ D.blocks device.old }
-        ensures count { D.reads device.new ≡ D.reads device.old }
-        ensures cause { HasCause (D.faults device.old) (D.faults device.new) result }
+        ensures spelled { OnOk result (0 < length self.old.pending
+            → MayOnlyLeave (HoldsPages self.old.geometry self.old.area self.old.slots
+            (group_page self.old.pending)) (D.state device.new)) }
+        ensures confined { ConfinedTo (InSlot self.old.geometry self.old.area self.old.slots)
+            (D.state device.old) (D.state device.new) }
+        ensures sure { OnOk result (0 < length self.old.pending
+            → UnsyncedIn (λ _. ⊥) (D.state device.new)) }
+        ensures calls { OnlyWrites D.Device (IsErr result) device.old device.new }
     {
         if self.count == 0 {
             return Ok(());
@@ -245,19 +246,24 @@ impl Log {
         requires { extent_block self.old.geometry 0 ≤ D.blocks device.old }
         ensures ok { OnOk result (self.new ≡ record self.old { cleared = true }) }
         ensures err { OnErr result (self.new ≡ self.old) }
-        ensures cleared { OnOk result ((left : Image) → MayLeave (D.state device.new) left → IsCleared self.old.geometry (other_area self.old.area) left) }
-        ensures zeros { OnOk result ((left : Image) → MayLeave (D.state device.new) left → HasZeroGates self.old.geometry (other_area self.old.area) left) }
-        ensures empty { OnOk result ((writes : ℕ) (left : Image) → MayLeave (D.state device.new) left → HasLog self.old.geometry (other_area self.old.area) writes [] left) }
-        ensures confined { ConfinedTo (InLogArea self.old.geometry (other_area self.old.area)) (D.state device.old) (D.state device.new) }
+        ensures cleared { OnOk result (MayOnlyLeave
+            (IsCleared self.old.geometry (other_area self.old.area)) (D.state device.new)) }
+        ensures zeros { OnOk result (MayOnlyLeave
+            (HasZeroGates self.old.geometry (other_area self.old.area)) (D.state device.new)) }
+        ensures empty { OnOk result ((writes : ℕ)
+            → MayOnlyLeave (HasLog self.old.geometry (other_area self.old.area) writes [])
+            (D.state device.new)) }
+        ensures confined { ConfinedTo (InLogArea self.old.geometry (other_area self.old.area))
+            (D.state device.old) (D.state device.new) }
 
         // Whatever it answers, each image since the start has the log of the current area as before.
         ensures kept { (groups : List (List terms.Item))
-            → ((left : Image) → MayLeave (D.state device.old) left → HasLog self.old.geometry self.old.area self.old.writes groups left)
-            → Leaves (HasLog self.old.geometry self.old.area self.old.writes groups) (D.state device.old) (D.state device.new) }
+            → MayOnlyLeave (HasLog self.old.geometry self.old.area self.old.writes groups)
+            (D.state device.old)
+            → Leaves (HasLog self.old.geometry self.old.area self.old.writes groups)
+            (D.state device.old) (D.state device.new) }
         ensures sure { OnOk result (UnsyncedIn (λ _. ⊥) (D.state device.new)) }
-        ensures size { D.blocks device.new ≡ D.blocks device.old }
-        ensures count { D.reads device.new ≡ D.reads device.old }
-        ensures cause { HasCause (D.faults device.old) (D.faults device.new) result }
+        ensures calls { OnlyWrites D.Device (IsErr result) device.old device.new }
     {
         clear_area(device, &self.geometry, 1 - self.area, &self.closed)?;
         self.cleared = true;
@@ -268,7 +274,12 @@ impl Log {
     pub fn turn(&mut self, writes: u64)
         requires cleared { self.old.cleared ≡ true }
         requires empty { self.old.pending ≡ [] }
-        ensures { self.new ≡ record self.old { area = other_area self.old.area; writes = writes; slots = 0; cleared = false } }
+        ensures { self.new ≡ record self.old {
+          area = other_area self.old.area;
+          writes = writes;
+          slots = 0;
+          cleared = false;
+        } }
     {
         self.area = 1 - self.area;
         self.writes = writes;

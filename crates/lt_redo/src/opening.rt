@@ -1,10 +1,10 @@
 //! Reading a log area slot by slot.
 
-ghost use Rattle.std.specs.Prelude.{◌≡◌, ℕ, ◌-◌, ◌*◌, ◌<◌, ◌≤◌, Some, None, Err, IfOk, OnOk, IsErrOf, IsTrue, length};
+ghost use Rattle.std.specs.Prelude.{◌≡◌, ℕ, ◌-◌, ◌*◌, ◌<◌, ◌≤◌, Some, None, Err, IfOk, OnOk, IsErr, IsErrOf, IsTrue};
+ghost use Rattle.std.specs.Prelude.{length};
 ghost use Rattle.std.specs.Option.{ForSome};
 ghost use Rattle.lt_terms.specs.Bytes.{Image, block_at};
-ghost use Rattle.lt_terms.specs.Causes.{CountsOne, HasCause, Rose};
-ghost use Rattle.lt_device.specs.Reads.{CountsAtMost};
+ghost use Rattle.lt_device.specs.Calls.{OnlyReads};
 ghost use Rattle.lt_format.specs.Layout.{is_open, log_gate, log_content, first_open};
 ghost use Rattle.lt_format.specs.Log.{group_on, log_groups};
 ghost use Rattle.lt_redo.specs.Opening.{HasItems, items_with};
@@ -31,14 +31,15 @@ pub fn replay<D: Device>(
     ensures slots { IfOk result (λ read. read.0 ≤ geometry.now.slots) }
     ensures writes { IfOk result (λ read. read.1.writes ≡ writes) }
     ensures enough { IfOk result (λ read. read.0 ≤ length read.1.items.items) }
-    ensures items { IfOk result (λ read. ForSome (D.state device.old).shown (HasItems geometry.now area writes read.0 read.1.items.items)) }
-    ensures damaged { (b : ℕ) → IsErrOf result (OpenFault.Damaged b) → ForSome (D.state device.old).shown (λ image. log_groups geometry.now image area writes ≡ Err b) }
-    ensures damaged_block { (b : ℕ) → IsErrOf result (OpenFault.Damaged b) → InLogArea geometry.now area b }
-    ensures cause { IsErrOf result OpenFault.Device → Rose (D.faults device.old) (D.faults device.new) }
-    ensures later { D.faults device.old ≤ D.faults device.new }
-    ensures state { D.state device.new ≡ D.state device.old }
-    ensures size { D.blocks device.new ≡ D.blocks device.old }
-    ensures count { CountsAtMost (2 * geometry.now.slots) (D.reads device.old) (D.reads device.new) }
+    ensures items { IfOk result (λ read. ForSome (D.state device.old).shown
+        (HasItems geometry.now area writes read.0 read.1.items.items)) }
+    ensures damaged { (b : ℕ) → IsErrOf result (OpenFault.Damaged b)
+        → ForSome (D.state device.old).shown
+        (λ image. log_groups geometry.now image area writes ≡ Err b) }
+    ensures damaged_block { (b : ℕ) → IsErrOf result (OpenFault.Damaged b)
+        → InLogArea geometry.now area b }
+    ensures calls { OnlyReads D.Device (2 * geometry.now.slots) (IsErrOf result OpenFault.Device)
+        device.old device.new }
 {
     let mut read = Replay::start(alloc, writes);
     for slot in 0..geometry.slots {
@@ -60,11 +61,9 @@ fn read_gate<D: Device>(
     page: &mut Page,
 ) -> Result<bool, Failed>
     requires within { log_gate geometry.now area slot < D.blocks device.old }
-    ensures opened { IfOk result (λ opened. ForSome (D.state device.old).shown (λ image. is_open (block_at image (log_gate geometry.now area slot)) ≡ opened)) }
-    ensures cause { HasCause (D.faults device.old) (D.faults device.new) result }
-    ensures state { D.state device.new ≡ D.state device.old }
-    ensures size { D.blocks device.new ≡ D.blocks device.old }
-    ensures count { CountsOne (D.reads device.old) (D.reads device.new) }
+    ensures opened { IfOk result (λ opened. ForSome (D.state device.old).shown
+        (λ image. is_open (block_at image (log_gate geometry.now area slot)) ≡ opened)) }
+    ensures calls { OnlyReads D.Device 1 (IsErr result) device.old device.new }
 {
     device.read(geometry.log_gate(area, slot), page)?;
     Ok(gate_open(page))
@@ -84,15 +83,16 @@ fn read_content<D: Device>(
     ensures writes { IfOk result (λ more. more.writes ≡ read.writes) }
     ensures more { IfOk result (λ more. length read.items.items < length more.items.items) }
     ensures items { IfOk result (λ more. ForSome (D.state device.old).shown (λ image.
-        items_with read.writes read.items.items (group_on (block_at image (log_content geometry.now area slot))) ≡ Some more.items.items)) }
-    ensures damaged { (b : ℕ) → IsErrOf result (OpenFault.Damaged b) → ForSome (D.state device.old).shown (λ image.
-        items_with read.writes read.items.items (group_on (block_at image (log_content geometry.now area slot))) ≡ None) }
-    ensures damaged_block { (b : ℕ) → IsErrOf result (OpenFault.Damaged b) → b ≡ log_content geometry.now area slot }
-    ensures cause { IsErrOf result OpenFault.Device → Rose (D.faults device.old) (D.faults device.new) }
-    ensures later { D.faults device.old ≤ D.faults device.new }
-    ensures state { D.state device.new ≡ D.state device.old }
-    ensures size { D.blocks device.new ≡ D.blocks device.old }
-    ensures count { CountsOne (D.reads device.old) (D.reads device.new) }
+        items_with read.writes read.items.items
+        (group_on (block_at image (log_content geometry.now area slot))) ≡ Some more.items.items)) }
+    ensures damaged { (b : ℕ) → IsErrOf result (OpenFault.Damaged b)
+        → ForSome (D.state device.old).shown (λ image.
+        items_with read.writes read.items.items
+        (group_on (block_at image (log_content geometry.now area slot))) ≡ None) }
+    ensures damaged_block { (b : ℕ) → IsErrOf result (OpenFault.Damaged b)
+        → b ≡ log_content geometry.now area slot }
+    ensures calls { OnlyReads D.Device 1 (IsErrOf result OpenFault.Device)
+        device.old device.new }
 {
     let content = geometry.log_gate(area, slot) + 1;
     device.read(content, page)?;
@@ -112,15 +112,15 @@ fn check_closed<D: Device>(
 ) -> Result<(), OpenFault>
     requires within { log_gate geometry.now area geometry.now.slots ≤ D.blocks device.old }
     requires from { from ≤ geometry.now.slots }
-    ensures closed { OnOk result (ForSome (D.state device.old).shown (λ image. first_open image (log_gate geometry.now area) from (geometry.now.slots - from) ≡ None)) }
-    ensures damaged { (b : ℕ) → IsErrOf result (OpenFault.Damaged b) → ForSome (D.state device.old).shown (λ image.
+    ensures closed { OnOk result (ForSome (D.state device.old).shown (λ image.
+        first_open image (log_gate geometry.now area) from (geometry.now.slots - from) ≡ None)) }
+    ensures damaged { (b : ℕ) → IsErrOf result (OpenFault.Damaged b)
+        → ForSome (D.state device.old).shown (λ image.
         first_open image (log_gate geometry.now area) from (geometry.now.slots - from) ≡ Some b) }
-    ensures damaged_block { (b : ℕ) → IsErrOf result (OpenFault.Damaged b) → InLogArea geometry.now area b }
-    ensures cause { IsErrOf result OpenFault.Device → Rose (D.faults device.old) (D.faults device.new) }
-    ensures later { D.faults device.old ≤ D.faults device.new }
-    ensures state { D.state device.new ≡ D.state device.old }
-    ensures size { D.blocks device.new ≡ D.blocks device.old }
-    ensures count { CountsAtMost (geometry.now.slots - from) (D.reads device.old) (D.reads device.new) }
+    ensures damaged_block { (b : ℕ) → IsErrOf result (OpenFault.Damaged b)
+        → InLogArea geometry.now area b }
+    ensures calls { OnlyReads D.Device (geometry.now.slots - from) (IsErrOf result OpenFault.Device)
+        device.old device.new }
 {
     for slot in from..geometry.slots {
         if read_gate(device, geometry, area, slot, page)? {

@@ -44,8 +44,10 @@ impl Replay {
     /// with it would cost more than 204,092 bytes or pass the greatest number of writes.
     pub fn with_group(self, alloc: Global, page: &Page) -> Result<Option<Replay>, NoMemory>
         ensures writes { IfOk result (λ more. IfSome more (λ replay. replay.writes ≡ self.writes)) }
-        ensures items { IfOk result (λ more. option_map (λ replay. replay.items.items) more ≡ items_with self.writes self.items.items (group_on page.now)) }
-        ensures more { IfOk result (λ more. IfSome more (λ replay. length self.items.items < length replay.items.items)) }
+        ensures items { IfOk result (λ more. option_map (λ replay. replay.items.items) more
+            ≡ items_with self.writes self.items.items (group_on page.now)) }
+        ensures more { IfOk result (λ more. IfSome more
+            (λ replay. length self.items.items < length replay.items.items)) }
     {
         let Some((group, cost)) = group_on(page) else {
             return Ok(None);

@@ -1,10 +1,9 @@
 //! One slot of a log area: a gate, and the content behind it.
 
-ghost use Rattle.std.specs.Prelude.{◌≡◌, ℕ, ◌<◌, ◌∷◌, ◌++◌, [], List, true, length, OnOk};
-ghost use Rattle.lt_terms.specs.Bytes.{Image};
-ghost use Rattle.lt_terms.specs.Causes.{HasCause};
+ghost use Rattle.std.specs.Prelude.{◌≡◌, ℕ, ◌<◌, ◌∷◌, ◌++◌, [], List, true, length, IsErr, OnOk};
+ghost use Rattle.lt_device.specs.Calls.{OnlyWrites};
 ghost use Rattle.lt_terms.specs.Items.{Item};
-ghost use Rattle.lt_device.specs.Moments.{MayLeave, Leaves, ConfinedTo, UnsyncedIn};
+ghost use Rattle.lt_device.specs.Moments.{Leaves, ConfinedTo, UnsyncedIn, MayOnlyLeave};
 ghost use Rattle.lt_format.specs.Layout.{log_content, gate_page};
 ghost use Rattle.lt_redo.specs.Slots.{InSlot, HasLog, HasLogOrLonger, HoldsPages, MayFollow};
 
@@ -28,20 +27,22 @@ pub fn write_slot<D: Device>(
     // Each image since the start has the log as before, or with the whole group.
     ensures any_moment { (writes : ℕ) (groups : List (List Item)) (group : List Item)
         → length groups ≡ slot → MayFollow geometry.now writes groups group content.now
-        → ((left : Image) → MayLeave (D.state device.old) left → HasLog geometry.now area writes groups left)
-        → Leaves (HasLogOrLonger geometry.now area writes groups group) (D.state device.old) (D.state device.new) }
+        → MayOnlyLeave (HasLog geometry.now area writes groups) (D.state device.old)
+        → Leaves (HasLogOrLonger geometry.now area writes groups group) (D.state device.old)
+        (D.state device.new) }
 
     // After Ok only the latter.
     ensures committed { OnOk result ((writes : ℕ) (groups : List (List Item)) (group : List Item)
         → length groups ≡ slot → MayFollow geometry.now writes groups group content.now
-        → ((left : Image) → MayLeave (D.state device.old) left → HasLog geometry.now area writes groups left)
-        → (left : Image) → MayLeave (D.state device.new) left → HasLog geometry.now area writes (groups ++ group ∷ []) left) }
-    ensures pages { OnOk result ((left : Image) → MayLeave (D.state device.new) left → HoldsPages geometry.now area slot content.now left) }
-    ensures confined { ConfinedTo (InSlot geometry.now area slot) (D.state device.old) (D.state device.new) }
+        → MayOnlyLeave (HasLog geometry.now area writes groups) (D.state device.old)
+        → MayOnlyLeave (HasLog geometry.now area writes (groups ++ group ∷ []))
+        (D.state device.new)) }
+    ensures pages { OnOk result (MayOnlyLeave (HoldsPages geometry.now area slot content.now)
+        (D.state device.new)) }
+    ensures confined { ConfinedTo (InSlot geometry.now area slot) (D.state device.old)
+        (D.state device.new) }
     ensures sure { OnOk result (UnsyncedIn (λ _. ⊥) (D.state device.new)) }
-    ensures size { D.blocks device.new ≡ D.blocks device.old }
-    ensures count { D.reads device.new ≡ D.reads device.old }
-    ensures cause { HasCause (D.faults device.old) (D.faults device.new) result }
+    ensures calls { OnlyWrites D.Device (IsErr result) device.old device.new }
 {
     let gate = geometry.log_gate(area, slot);
     device.write(gate + 1, content)?;

@@ -1,5 +1,6 @@
 use Rattle.std.proofs.Common.{◌<◌, ◌∙◌, ap, false, arith}
 use Rattle.lt_device.specs.State.{State}
+use Rattle.lt_device.proofs.CallLaws.{writes_block}
 use Rattle.lt_device.proofs.Runs.{confined_writes}
 use Rattle.lt_format.specs.Layout.{edit_gate, gate_page}
 use Rattle.lt_manifest.specs.Written.{InEdits}
@@ -27,14 +28,12 @@ loop-slot-preserved g c =
     let so_far = c.loop-slot.invariant in
     let write = c.write.ensures in
     let inside : InEdits c.args.area c.edit_gate.result = (omega (arith, c.edit_gate.ensures), omega (arith, c.edit_gate.ensures, c.loop-slot-test.true)) in
-    let in_range : c.edit_gate.result < g.D.Device.blocks c.loop-slot.device = omega (arith, c.edit_gate.ensures, c.loop-slot-test.true, so_far.size, c.requires.within, c.requires.area) in
+    let in_range : c.edit_gate.result < g.D.Device.blocks c.loop-slot.device = omega (arith, c.edit_gate.ensures, c.loop-slot-test.true, so_far.calls.size, c.requires.within, c.requires.area) in
     record {
       written = written-more (edit_gate c.args.area) (λ k. gate_page false) c.loop-slot.slot _ _ _ _ _ c.edit_gate.ensures (λ k earlier e. omega arith) in_range write.wrote.fit c.in_ok-write.ensures.ok c.write_gate.ensures so_far.written;
       confined = confined_writes write.wrote so_far.confined inside;
       others = shows-writes (InEdits c.args.area) _ _ _ _ _ write.wrote inside so_far.others;
       kept = comes-writes (InEdits c.args.area) _ _ _ _ _ write.wrote inside so_far.kept;
       past = ap (λ (s : State). s.past) write.wrote.is ∙ so_far.past;
-      size = write.size ∙ so_far.size;
-      count = write.count ∙ so_far.count;
-      faults = omega (arith, so_far.faults, write.cause.later);
+      calls = writes_block so_far.calls write.size write.count write.cause;
     }

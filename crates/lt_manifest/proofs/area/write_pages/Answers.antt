@@ -1,5 +1,6 @@
 use Rattle.std.proofs.Common.{◌≡◌, ◌+◌, ◌<◌, ◌∙◌, ap, arith}
 use Rattle.lt_device.specs.State.{State}
+use Rattle.lt_device.proofs.CallLaws.{writes_block}
 use Rattle.lt_device.proofs.Runs.{confined_writes}
 use Rattle.lt_format.specs.Layout.{area_block}
 use Rattle.lt_manifest.specs.Written.{InArea, page_of}
@@ -26,13 +27,11 @@ loop-block-preserved g c =
     let low : c.loop-block.block < 305 = omega (arith, c.loop-block-test.true, c.div_ceil-block-end.ensures, c.requires.room) in
     let inside : InArea c.args.area (c.area-first.result + c.loop-block.block) = (omega (arith, c.area-first.ensures), omega (arith, c.area-first.ensures, low)) in
     let at : c.area-first.result + c.loop-block.block ≡ area_block c.args.area + c.loop-block.block = omega (arith, c.area-first.ensures) in
-    let in_range : c.area-first.result + c.loop-block.block < g.D.Device.blocks c.loop-block.device = omega (arith, c.area-first.ensures, low, so_far.size, c.requires.within, c.requires.area) in
+    let in_range : c.area-first.result + c.loop-block.block < g.D.Device.blocks c.loop-block.device = omega (arith, c.area-first.ensures, low, so_far.calls.size, c.requires.within, c.requires.area) in
     record {
       written = written-more (λ k. area_block c.args.area + k) (page_of c.args.bytes.now) c.loop-block.block _ _ _ _ _ at (λ k earlier e. omega arith) in_range write.wrote.fit c.in_ok-write.ensures.ok c.fill_page.ensures so_far.written;
       confined = confined_writes write.wrote so_far.confined inside;
       others = shows-writes (InArea c.args.area) _ _ _ _ _ write.wrote inside so_far.others;
       past = ap (λ (s : State). s.past) write.wrote.is ∙ so_far.past;
-      size = write.size ∙ so_far.size;
-      count = write.count ∙ so_far.count;
-      faults = omega (arith, so_far.faults, write.cause.later);
+      calls = writes_block so_far.calls write.size write.count write.cause;
     }

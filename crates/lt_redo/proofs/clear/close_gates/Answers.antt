@@ -1,5 +1,6 @@
-use Rattle.std.proofs.Common.{◌≡◌, ℕ, ◌<◌, subst, ◌∙◌, List, false, arith}
+use Rattle.std.proofs.Common.{◌≡◌, ℕ, ◌<◌, subst, List, false, arith}
 use Rattle.lt_device.specs.State.{written}
+use Rattle.lt_device.proofs.CallLaws.{writes_block}
 use Rattle.lt_device.proofs.Runs.{confined_writes}
 use Rattle.lt_format.specs.Layout.{log_gate, gate_page}
 use Rattle.lt_redo.specs.Slots.{InLogArea}
@@ -18,11 +19,9 @@ loop-slot-preserved g c =
     let inside : InLogArea geometry c.args.area c.log_gate.result = (omega (arith, c.log_gate.ensures), omega (arith, c.log_gate.ensures, c.loop-slot-test.true)) in
     let closed = subst (λ (page : List ℕ). g.D.Device.state c.write.new.self ≡ written (g.D.Device.state c.loop-slot.device) c.log_gate.result page) c.requires.closes c.in_ok-write.ensures.ok in
     let is = written_at (g.D.Device.state c.loop-slot.device) (g.D.Device.state c.write.new.self) (gate_page false) c.log_gate.ensures closed in
-    let in_range : log_gate geometry c.args.area c.loop-slot.slot < g.D.Device.blocks c.loop-slot.device = omega (arith, c.loop-slot.invariant.size, c.requires.within, c.loop-slot-test.true) in
+    let in_range : log_gate geometry c.args.area c.loop-slot.slot < g.D.Device.blocks c.loop-slot.device = omega (arith, c.loop-slot.invariant.calls.size, c.requires.within, c.loop-slot-test.true) in
     record {
       closed = ClosedSoFar-more geometry c.args.area c.loop-slot.slot _ _ _ c.loop-slot.invariant.closed (wrote_at c.log_gate.ensures c.write.ensures.wrote) in_range is;
       confined = confined_writes c.write.ensures.wrote c.loop-slot.invariant.confined inside;
-      size = c.write.ensures.size ∙ c.loop-slot.invariant.size;
-      count = c.write.ensures.count ∙ c.loop-slot.invariant.count;
-      faults = omega (arith, c.loop-slot.invariant.faults, c.write.ensures.cause.later);
+      calls = writes_block c.loop-slot.invariant.calls c.write.ensures.size c.write.ensures.count c.write.ensures.cause;
     }

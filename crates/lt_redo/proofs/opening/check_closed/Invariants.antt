@@ -1,6 +1,6 @@
-use Rattle.std.proofs.Common.{◌≡◌, ◌-◌, ◌≤◌}
+use Rattle.std.proofs.Common.{◌≡◌, ◌-◌}
 use Rattle.std.specs.Option.{ForSome}
-use Rattle.lt_device.specs.Reads.{CountsAtMost}
+use Rattle.lt_device.specs.Calls.{OnlyReads}
 use Rattle.lt_format.specs.Layout.{log_gate, first_open}
 use Rattle.lt_redo.proofs.opening.check_closed.Given as goal
 
@@ -9,8 +9,5 @@ abbrev pub invariant-loop-slot : goal.invariant-loop-slot
 invariant-loop-slot g l = record {
   closed : ForSome (g.D.Device.state l.fn.device).shown (λ image.
       first_open image (log_gate l.geometry l.area) l.from (l.geometry.slots - l.from) ≡ first_open image (log_gate l.geometry l.area) l.slot (l.geometry.slots - l.slot));
-  state : g.D.Device.state l.device ≡ g.D.Device.state l.fn.device;
-  size : g.D.Device.blocks l.device ≡ g.D.Device.blocks l.fn.device;
-  count : CountsAtMost (l.slot - l.from) (g.D.Device.reads l.fn.device) (g.D.Device.reads l.device);
-  faults : g.D.Device.faults l.fn.device ≤ g.D.Device.faults l.device;
+  calls : OnlyReads g.D.Device (l.slot - l.from) ⊥ l.fn.device l.device;
 }

@@ -1,6 +1,6 @@
 use Rattle.std.proofs.Common.{◌≡◌, ◌*◌, ◌≤◌, length}
 use Rattle.std.specs.Option.{ForSome}
-use Rattle.lt_device.specs.Reads.{CountsAtMost}
+use Rattle.lt_device.specs.Calls.{OnlyReads}
 use Rattle.lt_redo.proofs.OpeningLaws.{IsReplayed}
 use Rattle.lt_redo.proofs.opening.replay.Given as goal
 
@@ -10,8 +10,5 @@ invariant-loop-slot g l = record {
   writes : l.read.writes ≡ l.writes;
   enough : l.slot ≤ length l.read.items.items;
   replayed : ForSome (g.D.Device.state l.fn.device).shown (IsReplayed l.geometry l.area l.writes l.slot l.read.items.items);
-  state : g.D.Device.state l.device ≡ g.D.Device.state l.fn.device;
-  size : g.D.Device.blocks l.device ≡ g.D.Device.blocks l.fn.device;
-  count : CountsAtMost (2 * l.slot) (g.D.Device.reads l.fn.device) (g.D.Device.reads l.device);
-  faults : g.D.Device.faults l.fn.device ≤ g.D.Device.faults l.device;
+  calls : OnlyReads g.D.Device (2 * l.slot) ⊥ l.fn.device l.device;
 }

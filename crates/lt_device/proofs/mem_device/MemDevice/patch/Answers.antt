@@ -2,12 +2,12 @@ use Rattle.std.proofs.Common.{◌≡◌, false, sym, ◌∙◌, ap, subst, set, 
 use Rattle.std.specs.List.{All}
 use Rattle.std.proofs.lemmas.List.{length-set}
 use Rattle.lt_device.specs.History.{made, stable_of, past_of}
-use Rattle.lt_device.specs.Memory.{IsClean}
+use Rattle.lt_device.specs.Memory.{IsSynced}
 use Rattle.lt_device.proofs.Histories.{IsHistoryOf-empty, stable_of-clean}
 use Rattle.lt_device.proofs.mem_device.MemDevice.patch.Goals as goal
 
 clean : (c : goal.After-clear) → All (λ flag. flag ≡ false) c.self.inside.store.unsynced.items
-clean c = subst IsClean (sym c.self.view_is) c.requires.clean
+clean c = subst IsSynced (sym c.self.view_is) c.requires.synced
 
 pub invariant_of-self : goal.invariant_of-self
 invariant_of-self c =

@@ -26,17 +26,17 @@ returns-clause-confined g c = confined_writes c.write.ensures.wrote (confined_wi
 
 pub returns-clause-named : goal.returns-clause-named
 returns-clause-named g c = λ image told.
-    let stands = subst (λ n. IsTrue (extents_stand c.args.geometry.now n c.args.extents)) (sym c.fill_area.ensures.size) c.requires.stands in
-    fresh-named (g.D.Device.blocks c.fill_area.new.device) (g.D.Device.state c.fill_area.new.device) (g.D.Device.state c.write.new.self) _ c.deref.result.now c.write.ensures.wrote c.in_ok-write.ensures.ok c.fill_selector.ensures (roomy-below c.args.geometry.now (g.D.Device.blocks c.args.device.now) (g.D.Device.blocks c.fill_area.new.device) c.args.extents c.requires.stands c.fill_area.ensures.size) c.in_ok-fill_area.ensures.written image told
+    let stands = subst (λ n. IsTrue (extents_stand c.args.geometry.now n c.args.extents)) (sym c.fill_area.ensures.calls.size) c.requires.stands in
+    fresh-named (g.D.Device.blocks c.fill_area.new.device) (g.D.Device.state c.fill_area.new.device) (g.D.Device.state c.write.new.self) _ c.deref.result.now c.write.ensures.wrote c.in_ok-write.ensures.ok c.fill_selector.ensures (roomy-below c.args.geometry.now (g.D.Device.blocks c.args.device.now) (g.D.Device.blocks c.fill_area.new.device) c.args.extents c.requires.stands c.fill_area.ensures.calls.size) c.in_ok-fill_area.ensures.written image told
     c.args.geometry.now c.args.extents c.requires.valid stands (c.deref.ensures.value ∙ c.spell.ensures)
 
 pub returns-clause-gates : goal.returns-clause-gates
-returns-clause-gates g c = λ image told. area-closed 0 _ image (fresh-written (g.D.Device.blocks c.fill_area.new.device) (g.D.Device.state c.fill_area.new.device) (g.D.Device.state c.write.new.self) _ c.deref.result.now c.write.ensures.wrote c.in_ok-write.ensures.ok c.fill_selector.ensures (roomy-below c.args.geometry.now (g.D.Device.blocks c.args.device.now) (g.D.Device.blocks c.fill_area.new.device) c.args.extents c.requires.stands c.fill_area.ensures.size) c.in_ok-fill_area.ensures.written image told).written
+returns-clause-gates g c = λ image told. area-closed 0 _ image (fresh-written (g.D.Device.blocks c.fill_area.new.device) (g.D.Device.state c.fill_area.new.device) (g.D.Device.state c.write.new.self) _ c.deref.result.now c.write.ensures.wrote c.in_ok-write.ensures.ok c.fill_selector.ensures (roomy-below c.args.geometry.now (g.D.Device.blocks c.args.device.now) (g.D.Device.blocks c.fill_area.new.device) c.args.extents c.requires.stands c.fill_area.ensures.calls.size) c.in_ok-fill_area.ensures.written image told).written
 
 pub returns-clause-written : goal.returns-clause-written
 returns-clause-written g c = λ image told.
     subst (λ (bytes : List ℕ). HasSelected 0 bytes image) (c.deref.ensures.value ∙ c.spell.ensures)
-    (fresh-written (g.D.Device.blocks c.fill_area.new.device) (g.D.Device.state c.fill_area.new.device) (g.D.Device.state c.write.new.self) _ c.deref.result.now c.write.ensures.wrote c.in_ok-write.ensures.ok c.fill_selector.ensures (roomy-below c.args.geometry.now (g.D.Device.blocks c.args.device.now) (g.D.Device.blocks c.fill_area.new.device) c.args.extents c.requires.stands c.fill_area.ensures.size) c.in_ok-fill_area.ensures.written image told)
+    (fresh-written (g.D.Device.blocks c.fill_area.new.device) (g.D.Device.state c.fill_area.new.device) (g.D.Device.state c.write.new.self) _ c.deref.result.now c.write.ensures.wrote c.in_ok-write.ensures.ok c.fill_selector.ensures (roomy-below c.args.geometry.now (g.D.Device.blocks c.args.device.now) (g.D.Device.blocks c.fill_area.new.device) c.args.extents c.requires.stands c.fill_area.ensures.calls.size) c.in_ok-fill_area.ensures.written image told)
 
 pub returns-in_err-fill_area-clause-area_confined : goal.returns-in_err-fill_area-clause-area_confined
 returns-in_err-fill_area-clause-area_confined g c = confined_widens c.fill_area.ensures.confined (λ k inside. inr inside)

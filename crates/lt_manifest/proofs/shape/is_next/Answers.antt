@@ -1,5 +1,0 @@
-use Rattle.lt_manifest.proofs.ShapeLaws.{eight_fits}
-use Rattle.lt_manifest.proofs.shape.is_next.Goals as goal
-
-pub pow-requires : goal.pow-requires
-pow-requires c = eight_fits c.args.level c.requires
