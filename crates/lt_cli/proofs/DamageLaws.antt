@@ -6,10 +6,9 @@ use Rattle.lt_device.specs.State as told
 use Rattle.lt_io.specs.Sink.{Gains, GainsFront}
 use Rattle.lt_io.proofs.Flows.{Gains-none, Gains-more, GainsFront-more}
 use Rattle.lt_serve.specs.Serving.{GainsSome}
-use Rattle.lt_serve.specs.Damage.{FoundByGet}
+use Rattle.lt_serve.specs.Promise.{FoundByGet}
 use Rattle.lt_store.specs.Promise.{StopsOpening}
-use Rattle.lt_cli.specs.Promise.{FoundDamage}
-use Rattle.lt_cli.specs.Telling.{Tells, damage_line}
+use Rattle.lt_cli.specs.Promise.{FoundDamage, Tells, damage_line}
 
 module _ (stands0 stands1 stands : List ℕ → Type 0) (faults0 faults1 faults : ℕ) (line shown : List ℕ) (gained : Gains stands0 stands1 shown) (later : faults0 ≤ faults1) where
   -- a front of the line was told behind what was shown

@@ -3,7 +3,7 @@
 ghost use Rattle.std.specs.Prelude.{◌≡◌, ℕ, ◌<◌, ◌≤◌, ◌^◌, ◌↔◌, Some, IsTrue};
 ghost use Rattle.std.specs.Fmt.{decimal};
 ghost use Rattle.lt_format.specs.Layout.{is_geometry};
-ghost use Rattle.lt_cli.specs.Words.{AreSizes, MeansSome};
+ghost use Rattle.lt_cli.specs.Promise.{AreSizes, MeansSome};
 
 use itoa::Buffer;
 

@@ -30,7 +30,7 @@ use Rattle.lt_store.proofs.RootedLaws.{rooted-none}
 use Rattle.lt_serve.specs.Acting.{Answers, Lost}
 use Rattle.lt_serve.specs.Faults.{round_fault_of}
 use Rattle.lt_serve.specs.Outcomes.{HasValue, is_taken, most_text, outcome_text, reply_text}
-use Rattle.lt_serve.specs.Runs.{Runs, is_ok}
+use Rattle.lt_serve.specs.Promise.{Runs, is_ok}
 
 -- one command was acted
 pub runs-one : (e : ℕ) (s : State) (command : Command) (reply : Reply) (writes : List Item) → Step e s command reply (after_writes s writes) → writes ≡ taken command reply → Runs e s (command ∷ []) (reply ∷ []) writes

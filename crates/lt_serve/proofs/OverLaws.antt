@@ -22,9 +22,8 @@ use Rattle.lt_store.specs.Promise.{Rests}
 use Rattle.lt_store.proofs.GoLaws.{open-rests}
 use Rattle.lt_serve.specs.declared.served.Served.{Served}
 use Rattle.lt_serve.specs.declared.served.Served.TheVariants as served
-use Rattle.lt_serve.specs.Faults.{IsPause, IsInnerHalt}
-use Rattle.lt_serve.specs.Runs.{Runs, acknowledged}
-use Rattle.lt_serve.specs.Serving.{Reached, ShowsFirst, Over}
+use Rattle.lt_serve.specs.Promise.{IsPause, IsInnerHalt, Runs, acknowledged, ShowsFirst, Over}
+use Rattle.lt_serve.specs.Serving.{Reached}
 use Rattle.lt_serve.proofs.RunLaws.{runs-more, runs-length, runs-counts, texts-append}
 use Rattle.lt_serve.proofs.ShownLaws.{acknowledged-append}
 

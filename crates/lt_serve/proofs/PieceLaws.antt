@@ -28,11 +28,13 @@ use Rattle.lt_serve.specs.declared.faults.RoundFault.{RoundFault}
 use Rattle.lt_serve.specs.declared.faults.RoundFault.TheVariants as faults
 use Rattle.lt_serve.specs.declared.served.Served.{Served}
 use Rattle.lt_serve.specs.declared.served.Served.TheVariants as served
-use Rattle.lt_serve.specs.Faults.{IsLost, IsPause, IsHalt, IsInnerHalt, IsSettled, served_of}
+use Rattle.lt_serve.specs.Faults.{IsLost, IsHalt, served_of}
+use Rattle.lt_serve.specs.Promise.{IsPause, IsInnerHalt, IsSettled, Runs, StartWithOk, acknowledged, Over}
+use Rattle.lt_serve.specs.Promise.{SteppedOver}
 use Rattle.lt_serve.specs.Rounds.{Round, Stopped}
-use Rattle.lt_serve.specs.Runs.{Runs, StartWithOk, ok_count, acknowledged}
+use Rattle.lt_serve.specs.Runs.{ok_count}
 use Rattle.lt_serve.specs.Sending.{Sends}
-use Rattle.lt_serve.specs.Serving.{Reached, Over, SteppedOn, SteppedOver}
+use Rattle.lt_serve.specs.Serving.{Reached, SteppedOn}
 use Rattle.lt_serve.proofs.LineLaws.{commands-append, rest_of-append}
 use Rattle.lt_serve.proofs.OverLaws.{since-more, open-has, rests-later, shows, lines-answered}
 use Rattle.lt_serve.proofs.RoundLaws.{no-first, no-second, stopped-order}

@@ -25,7 +25,8 @@ use Rattle.lt_serve.specs.declared.faults.RoundFault.{RoundFault}
 use Rattle.lt_serve.specs.declared.faults.RoundFault.TheVariants as faults
 use Rattle.lt_serve.specs.Acting.{Answered, Answers, Lost, settled_unless}
 use Rattle.lt_serve.specs.Rounds.{AtCommit, AtLine, Committed, Round, Stopped, Went, all_text}
-use Rattle.lt_serve.specs.Runs.{Runs, StartWithOk, is_ok, ok_count}
+use Rattle.lt_serve.specs.Runs.{ok_count}
+use Rattle.lt_serve.specs.Promise.{Runs, StartWithOk, is_ok}
 use Rattle.lt_serve.proofs.LineLaws.{commands-append, commands-unbroken, commands-ended, lines-ended, rest_of-unbroken, rest_of-ended}
 use Rattle.lt_serve.proofs.RunLaws.{ok_count-append, ok_count-cons, runs-more, runs-none, texts-append}
 

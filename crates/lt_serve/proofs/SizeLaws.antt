@@ -6,7 +6,7 @@ use Rattle.lt_format.specs.Layout.{blocks_needed}
 use Rattle.lt_image.specs.Opening.{Opened, open_image}
 use Rattle.lt_store.specs.Open.{SameRegions, StoreView, extents_of}
 use Rattle.lt_store.specs.Reading.{Reads}
-use Rattle.lt_serve.specs.Damage.{FoundByGet, StopsSomeGet}
+use Rattle.lt_serve.specs.Promise.{FoundByGet, StopsSomeGet}
 use Rattle.lt_serve.specs.Sizes.{SameSizes}
 use Rattle.lt_serve.proofs.ResultLaws.{one-ok}
 

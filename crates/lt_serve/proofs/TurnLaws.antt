@@ -26,12 +26,11 @@ use Rattle.lt_store.specs.Open.{StoreView, IsOpen}
 use Rattle.lt_store.proofs.RootedLaws.{rests-rooted, rooted-none}
 use Rattle.lt_serve.specs.declared.served.Served.{Served}
 use Rattle.lt_serve.specs.declared.served.Served.TheVariants as served
-use Rattle.lt_serve.specs.Damage.{FailsToOpen, IsUnopened}
+use Rattle.lt_serve.specs.Promise.{FailsToOpen, IsUnopened, IsSound, acknowledged, Over, SteppedOver, TurnedOver}
 use Rattle.lt_serve.specs.Ends.{with_end}
-use Rattle.lt_serve.specs.Faults.{IsEnd, IsHalt, IsSound, unopened_of}
-use Rattle.lt_serve.specs.Runs.{acknowledged}
+use Rattle.lt_serve.specs.Faults.{IsEnd, IsHalt, unopened_of}
 use Rattle.lt_serve.specs.Sending.{Sends}
-use Rattle.lt_serve.specs.Serving.{Reached, Over, SteppedOn, SteppedOver, TurnedOn, TurnedOver}
+use Rattle.lt_serve.specs.Serving.{Reached, SteppedOn, TurnedOn}
 use Rattle.lt_serve.proofs.OverLaws.{over-paused, over-done, over-rest}
 use Rattle.lt_serve.proofs.PieceLaws.{on-none, on-on, over-over}
 use Rattle.lt_serve.proofs.RunLaws.{runs-none}

@@ -14,7 +14,7 @@ use Rattle.lt_serve.specs.Faults.{IsLost}
 use Rattle.lt_store.specs.Going.{Goes, Survives}
 use Rattle.lt_store.specs.Open.{StoreView, extents_of, state_of}
 use Rattle.lt_store.specs.Promise.{IsRooted, Rests}
-use Rattle.lt_serve.specs.Runs.{Runs, is_ok}
+use Rattle.lt_serve.specs.Promise.{Runs, is_ok}
 
 -- The command was answered by the map machine, and its reply waits; `taken` where it is a write that was taken.
 pub record Answers (v : StoreView) (durable : State) (command : Command) (taken : Bool) (waiting0 waiting : Waiting)
@@ -45,7 +45,7 @@ abbrev pub settled_unless : Bool → Waiting → Waiting
 settled_unless true w = w
 settled_unless false w = all_settled w
 
--- The same of a line, whose reply is settled as long as no write was taken.
+-- A line was answered by the map machine, and its reply is settled as long as no write was taken.
 pub record Answered (v : StoreView) (durable : State) (command : Command) (wrote0 wrote : Bool)
     (waiting0 waiting : Waiting) (w : StoreView) (old new : told.State) : Type 0 where
   pub reply : Reply

@@ -18,7 +18,8 @@ use Rattle.lt_serve.specs.declared.faults.RoundFault.{RoundFault}
 use Rattle.lt_serve.specs.declared.faults.RoundFault.TheVariants as faults
 use Rattle.lt_serve.specs.Faults.{IsLost}
 use Rattle.lt_serve.specs.Outcomes.{most_text}
-use Rattle.lt_serve.specs.Runs.{Runs, StartWithOk, ok_count}
+use Rattle.lt_serve.specs.Runs.{ok_count}
+use Rattle.lt_serve.specs.Promise.{Runs, StartWithOk}
 
 -- all text that waits, settled or not
 abbrev pub all_text : Waiting → List ℕ
@@ -54,8 +55,12 @@ pub record Round (e : ℕ) (durable : State) (bytes kept : List ℕ) (waiting0 w
   pub runs : Runs e durable (commands bytes) replies writes
   pub line : kept ≡ kept_of (rest_of bytes)
   pub fits : length (texts replies) ≤ waiting0.room
-  pub told : waiting ≡ record { settled_text = all_text waiting0 ++ texts replies; pending_text = []; room =
-      waiting0.room - length (texts replies) }
+  pub told : waiting ≡ record {
+    settled_text = all_text waiting0 ++ texts replies;
+    pending_text = [];
+    room =
+        waiting0.room - length (texts replies);
+  }
   pub opened : IsOpen w (after_writes durable writes) new
   pub since : Leaves (λ left. IsPrefix left durable writes 0) old new
   -- each image since names the root alone
@@ -63,7 +68,7 @@ pub record Round (e : ℕ) (durable : State) (bytes kept : List ℕ) (waiting0 w
   -- where no write was taken, the device is as before
   pub quiet : writes ≡ [] → new ≡ old
 
--- The same before its replies are settled; those before its first write that was taken are.
+-- A round whose writes are durable, and whose replies are not settled yet but for those before its first write.
 pub record Committed (e : ℕ) (durable : State) (bytes kept : List ℕ) (waiting0 waiting : Waiting) (w : StoreView)
     (old new : told.State) : Type 0 where
   pub replies : List Reply

@@ -9,7 +9,7 @@ ghost use Rattle.lt_line.specs.View.{view_of as command_in};
 ghost use Rattle.lt_store.specs.Acting.{MayAct, command_of};
 ghost use Rattle.lt_store.specs.Open.{IsOpen, blocks_of, extents_of};
 ghost use Rattle.lt_store.specs.View.{view_of};
-ghost use Rattle.lt_serve.specs.Damage.{StopsSomeGet};
+ghost use Rattle.lt_serve.specs.Promise.{StopsSomeGet};
 ghost use Rattle.lt_serve.specs.Sizes.{SameSizes};
 ghost use Rattle.lt_serve.specs.Acting.{Answers, Lost};
 ghost use Rattle.lt_serve.specs.Faults.{round_fault_of};
@@ -38,7 +38,7 @@ pub(super) fn act_command<D: Device>(
 
     ensures ok { IfOk result (λ taken. (durable : State) → IsOpen (view_of store.old) durable (D.state device.old)
         → Answers (view_of store.old) durable (command_in command.now) taken out.old out.new (view_of store.new)
-            (D.state device.old) (D.state device.new)) }
+        (D.state device.old) (D.state device.new)) }
     ensures err { IfErr result (λ fault. (durable : State) → IsOpen (view_of store.old) durable (D.state device.old)
         → Lost (view_of store.old) durable (round_fault_of fault) (D.state device.old) (D.state device.new)) }
     ensures untold { OnErr result (out.new ≡ out.old) }
@@ -81,7 +81,7 @@ fn act_event<D: Device>(
     ensures ok { IfOk result (λ taken. (command : AskedCommand) (durable : State)
         → command_of event.entry ≡ Some command → IsOpen (view_of store.old) durable (D.state device.old)
         → Answers (view_of store.old) durable command taken out.old out.new (view_of store.new) (D.state device.old)
-            (D.state device.new)) }
+        (D.state device.new)) }
     ensures err { IfErr result (λ fault. (durable : State) → IsOpen (view_of store.old) durable (D.state device.old)
         → Lost (view_of store.old) durable (round_fault_of fault) (D.state device.old) (D.state device.new)) }
     ensures untold { OnErr result (out.new ≡ out.old) }

@@ -45,7 +45,7 @@ impl Session {
         ensures state { D.state device.new ≡ D.state device.old }
         ensures size { D.blocks device.new ≡ D.blocks device.old }
         // The most slots and the most extents that there may be.
-        ensures count { CountsAtMost (435 + 2 * 512 + 65536) (D.reads device.old) (D.reads device.new) }
+        ensures count { CountsAtMost (307 + 2 * 512 + 65536) (D.reads device.old) (D.reads device.new) }
     {
         let store = Store::open(alloc, device)?;
         let lines = Lines::new(alloc)?;

@@ -12,7 +12,7 @@ ghost use Rattle.lt_line.specs.Held.{kept_of};
 ghost use Rattle.lt_line.specs.Waiting.{Waiting, all_settled};
 ghost use Rattle.lt_store.specs.Open.{IsOpen, StoreView, blocks_of, extents_of};
 ghost use Rattle.lt_serve.specs.Acting.{Answered, Lost};
-ghost use Rattle.lt_serve.specs.Damage.{StopsSomeGet};
+ghost use Rattle.lt_serve.specs.Promise.{StopsSomeGet};
 ghost use Rattle.lt_serve.specs.Outcomes.{most_text};
 ghost use Rattle.lt_serve.specs.Rounds.{Committed, Round, Stopped, Went};
 ghost use Rattle.lt_serve.specs.Sizes.{SameSizes};
@@ -52,12 +52,12 @@ impl Session {
             → IsOpen (store_in self.old) durable (D.state device.old) → IsFalse (has_line_feed line)
             → kept_in self.old ≡ kept_of line
             → Round (extents_of (store_in self.old)) durable (line ++ take n piece.now)
-                (kept_in self.new) out.old out.new (store_in self.new) (D.state device.old) (D.state device.new)) }
+            (kept_in self.new) out.old out.new (store_in self.new) (D.state device.old) (D.state device.new)) }
         ensures err { IfErr result (λ fault. (durable : State) (line : List ℕ)
             → IsOpen (store_in self.old) durable (D.state device.old) → IsFalse (has_line_feed line)
             → kept_in self.old ≡ kept_of line
             → Stopped (extents_of (store_in self.old)) durable (line ++ piece.now) self.new.lines fault
-                (all_settled out.old) out.new.settled_text (D.state device.old) (D.state device.new)) }
+            (all_settled out.old) out.new.settled_text (D.state device.old) (D.state device.new)) }
 
         // On any device.
         ensures within { IfOk result (λ n. n ≤ length piece.now) }
@@ -111,13 +111,13 @@ impl Session {
             → IsOpen (store_in self.old) durable (D.state device.old) → IsFalse (has_line_feed line)
             → kept_in self.old ≡ kept_of line
             → Committed (extents_of (store_in self.old)) durable (line ++ take n piece.now)
-                (kept_in self.new) out.old out.new (store_in self.new) (D.state device.old) (D.state device.new)) }
+            (kept_in self.new) out.old out.new (store_in self.new) (D.state device.old) (D.state device.new)) }
         ensures err { IfErr result (λ fault. (durable : State) (line : List ℕ)
             → IsOpen (store_in self.old) durable (D.state device.old) → IsFalse (has_line_feed line)
             → kept_in self.old ≡ kept_of line
             → Stopped (extents_of (store_in self.old)) durable
-                (line ++ piece.now) self.new.lines fault out.old out.new.settled_text (D.state device.old)
-                (D.state device.new)) }
+            (line ++ piece.now) self.new.lines fault out.old out.new.settled_text (D.state device.old)
+            (D.state device.new)) }
 
         ensures within { IfOk result (λ n. n ≤ length piece.now) }
         ensures some { IfOk result (λ n. 0 < length piece.now → 0 < n) }
@@ -160,14 +160,14 @@ impl Session {
             → IsOpen (store_in self.old) durable (D.state device.old) → IsFalse (has_line_feed line)
             → kept_in self.old ≡ kept_of line
             → Went (store_in self.old) durable (line ++ take n piece.now)
-                (kept_in self.new) self.new.wrote out.old out.new (store_in self.new) (D.state device.old)
-                (D.state device.new)) }
+            (kept_in self.new) self.new.wrote out.old out.new (store_in self.new) (D.state device.old)
+            (D.state device.new)) }
         ensures err { IfErr result (λ fault. (durable : State) (line : List ℕ)
             → IsOpen (store_in self.old) durable (D.state device.old) → IsFalse (has_line_feed line)
             → kept_in self.old ≡ kept_of line
             → Stopped (extents_of (store_in self.old)) durable
-                (line ++ piece.now) self.new.lines fault out.old out.new.settled_text (D.state device.old)
-                (D.state device.new)) }
+            (line ++ piece.now) self.new.lines fault out.old out.new.settled_text (D.state device.old)
+            (D.state device.new)) }
 
         ensures within { IfOk result (λ n. n ≤ length piece.now) }
         ensures some { IfOk result (λ n. 0 < length piece.now → 0 < n) }
@@ -209,16 +209,16 @@ impl Session {
         ensures ok { IfOk result (λ n. (v : StoreView) (durable : State) (bytes : List ℕ) (waiting0 : Waiting)
             (start : told.State) → IsOpen v durable start → extents_of (store_in self.old) ≡ extents_of v
             → Went v durable bytes (kept_in self.old) self.old.wrote waiting0 out.old (store_in self.old) start
-                (D.state device.old)
+            (D.state device.old)
             → Went v durable (bytes ++ take n piece.now) (kept_in self.new) self.new.wrote waiting0 out.new
-                (store_in self.new) start (D.state device.new)) }
+            (store_in self.new) start (D.state device.new)) }
         ensures err { IfErr result (λ fault. (v : StoreView) (durable : State) (bytes : List ℕ) (waiting0 : Waiting)
             (start : told.State) → IsOpen v durable start → extents_of (store_in self.old) ≡ extents_of v
             → v.log.pending ≡ []
             → Went v durable bytes (kept_in self.old) self.old.wrote waiting0 out.old (store_in self.old) start
-                (D.state device.old)
+            (D.state device.old)
             → Stopped (extents_of v) durable
-                (bytes ++ piece.now) self.new.lines fault waiting0 out.new.settled_text start (D.state device.new)) }
+            (bytes ++ piece.now) self.new.lines fault waiting0 out.new.settled_text start (D.state device.new)) }
 
         ensures within { IfOk result (λ n. n ≤ length piece.now) }
         ensures some { IfOk result (λ n. 0 < n) }
@@ -256,7 +256,7 @@ impl Session {
         ensures ok { OnOk result ((line : List ℕ) (durable : State) → kept_in self.old ≡ kept_of line
             → IsOpen (store_in self.old) durable (D.state device.old)
             → Answered (store_in self.old) durable (command_of line) self.old.wrote self.new.wrote out.old out.new
-                (store_in self.new) (D.state device.old) (D.state device.new)) }
+            (store_in self.new) (D.state device.old) (D.state device.new)) }
         ensures err { IfErr result (λ fault. (durable : State) → IsOpen (store_in self.old) durable (D.state device.old)
             → Lost (store_in self.old) durable fault (D.state device.old) (D.state device.new)) }
         ensures untold { OnErr result (out.new ≡ out.old) }

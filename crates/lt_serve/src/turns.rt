@@ -8,9 +8,10 @@ ghost use Rattle.lt_language.specs.Machine.{State};
 ghost use Rattle.lt_line.specs.Waiting.{nothing_waits};
 ghost use Rattle.lt_store.specs.Promise.{Rests, StopsOpening};
 ghost use Rattle.lt_store.specs.Open.{IsOpen, blocks_of, extents_of};
-ghost use Rattle.lt_serve.specs.Damage.{FailsToOpen, FoundByGet, IsUnopened, StopsSomeGet};
-ghost use Rattle.lt_serve.specs.Faults.{IsEnd, IsHalt, IsSound, IsStepEnd, IsTurnEnd};
-ghost use Rattle.lt_serve.specs.Serving.{GainsSome, Reached, SteppedOn, SteppedOver, TurnedOn, TurnedOver};
+ghost use Rattle.lt_serve.specs.Promise.{FailsToOpen, FoundByGet, IsUnopened, StopsSomeGet, IsSound, SteppedOver};
+ghost use Rattle.lt_serve.specs.Promise.{TurnedOver};
+ghost use Rattle.lt_serve.specs.Faults.{IsEnd, IsHalt, IsStepEnd, IsTurnEnd};
+ghost use Rattle.lt_serve.specs.Serving.{GainsSome, Reached, SteppedOn, TurnedOn};
 ghost use Rattle.lt_serve.specs.Sizes.{SameSizes};
 ghost use Rattle.lt_serve.specs.View.{kept_in, store_in};
 
@@ -44,15 +45,15 @@ fn step<D: Device, K: Sink>(
         → Reached (extents_of (store_in session.old)) before input output (kept_in session.old)
         (store_in session.old) start (D.state device.old)
         → SteppedOn (extents_of (store_in session.old)) before (input ++ take n piece.now) output
-            (kept_in session.new) (store_in session.new) (K.stands sink.old) (K.stands sink.new) start
-            (D.state device.new)) }
+        (kept_in session.new) (store_in session.new) (K.stands sink.old) (K.stands sink.new) start
+        (D.state device.new)) }
     ensures over { IfErr result (λ status. (before : State) (input output : List ℕ) (start : told.State)
         → length piece.now ≤ 4096
         → Reached (extents_of (store_in session.old)) before input output (kept_in session.old)
         (store_in session.old) start (D.state device.old)
         → IsHalt status × SteppedOver (extents_of (store_in session.old)) before status (input ++ piece.now) output
-            (K.stands sink.old) (K.stands sink.new) (K.faults sink.old) (K.faults sink.new) start
-            (D.state device.new)) }
+        (K.stands sink.old) (K.stands sink.new) (K.faults sink.old) (K.faults sink.new) start
+        (D.state device.new)) }
 
     ensures taken { IfOk result (λ n. n ≤ length piece.now) }
     ensures some { IfOk result (λ n. 0 < length piece.now → 0 < n) }
@@ -101,13 +102,13 @@ fn serve_piece<D: Device, K: Sink>(
         → Reached (extents_of (store_in session.old)) before input output (kept_in session.old)
         (store_in session.old) start (D.state device.old)
         → SteppedOn (extents_of (store_in session.old)) before (input ++ piece.now) output (kept_in session.new)
-            (store_in session.new) (K.stands sink.old) (K.stands sink.new) start (D.state device.new)) }
+        (store_in session.new) (K.stands sink.old) (K.stands sink.new) start (D.state device.new)) }
     ensures over { IfErr result (λ status. (before : State) (input output : List ℕ) (start : told.State)
         → Reached (extents_of (store_in session.old)) before input output (kept_in session.old)
         (store_in session.old) start (D.state device.old)
         → IsHalt status × SteppedOver (extents_of (store_in session.old)) before status (input ++ piece.now) output
-            (K.stands sink.old) (K.stands sink.new) (K.faults sink.old) (K.faults sink.new) start
-            (D.state device.new)) }
+        (K.stands sink.old) (K.stands sink.new) (K.faults sink.old) (K.faults sink.new) start
+        (D.state device.new)) }
 
     ensures none { OnOk result (replies.new ≡ nothing_waits) }
     ensures up { OnOk result (session.new.is_up ≡ true) }
@@ -138,7 +139,7 @@ fn finish<K: Sink>(session: &mut Session, replies: &mut Replies, sink: &mut K) -
     ensures over { (e : ℕ) (before : State) (input output : List ℕ) (start now : told.State)
         → Reached e before input output (kept_in session.old) (store_in session.old) start now
         → SteppedOver e before result input output (K.stands sink.old) (K.stands sink.new) (K.faults sink.old)
-            (K.faults sink.new) start now }
+        (K.faults sink.new) start now }
     ensures end { IsEnd result }
     ensures sink_gains { GainsSome (K.stands sink.old) (K.stands sink.new) }
     ensures sink_later { K.faults sink.old ≤ K.faults sink.new }
@@ -170,14 +171,14 @@ fn turn<S: Source, K: Sink, D: Device>(
         → Reached (extents_of (store_in session.old)) before input output (kept_in session.old)
         (store_in session.old) start (D.state device.old)
         → TurnedOn (extents_of (store_in session.old)) before input output (kept_in session.new)
-            (store_in session.new) (S.left source.old) (S.left source.new) (K.stands sink.old)
-            (K.stands sink.new) start (D.state device.new)) }
+        (store_in session.new) (S.left source.old) (S.left source.new) (K.stands sink.old)
+        (K.stands sink.new) start (D.state device.new)) }
     ensures over { IfErr result (λ status. (before : State) (input output : List ℕ) (start : told.State)
         → Reached (extents_of (store_in session.old)) before input output (kept_in session.old)
         (store_in session.old) start (D.state device.old)
         → IsSound status × TurnedOver (extents_of (store_in session.old)) before status input output
-            (S.left source.old) (S.left source.new) (K.stands sink.old) (K.stands sink.new) (K.faults sink.old)
-            (K.faults sink.new) start (D.state device.new)) }
+        (S.left source.old) (S.left source.new) (K.stands sink.old) (K.stands sink.new) (K.faults sink.old)
+        (K.faults sink.new) start (D.state device.new)) }
 
     ensures none { OnOk result (replies.new ≡ nothing_waits) }
     ensures up { OnOk result (session.new.is_up ≡ true) }
@@ -221,8 +222,8 @@ fn serve_open<S: Source, K: Sink, D: Device>(
 
     ensures over { (before : State) → IsOpen (store_in session.old) before (D.state device.old)
         → IsSound result × TurnedOver (extents_of (store_in session.old)) before result [] [] (S.left source.old)
-            (S.left source.new) (K.stands sink.old) (K.stands sink.new) (K.faults sink.old) (K.faults sink.new)
-            (D.state device.old) (D.state device.new) }
+        (S.left source.new) (K.stands sink.old) (K.stands sink.new) (K.faults sink.old) (K.faults sink.new)
+        (D.state device.old) (D.state device.new) }
     ensures damaged { (b : ℕ) → result ≡ Served.Damaged b
         → StopsSomeGet (store_in session.old).named.geometry (extents_of (store_in session.old)) b
         (D.state device.new) }
@@ -272,20 +273,20 @@ pub fn serve<S: Source, K: Sink, D: Device>(
     // block is damaged.
     ensures over { (before : State) (r : Rests before (D.state device.old))
         → IsSound result × TurnedOver r.rest.named.manifest.header.extents before result [] [] (S.left source.old)
-            (S.left source.new) (K.stands sink.old) (K.stands sink.new) (K.faults sink.old) (K.faults sink.new)
-            (D.state device.old) (D.state device.new) }
+        (S.left source.new) (K.stands sink.old) (K.stands sink.new) (K.faults sink.old) (K.faults sink.new)
+        (D.state device.old) (D.state device.new) }
 
     // On any device a damaged block is one at which opening stops, and then nothing was read, written or answered,
     // or one at which a get stops.
     ensures damaged { (b : ℕ) → result ≡ Served.Damaged b
         → (StopsOpening (D.state device.old) b × (D.state device.new ≡ D.state device.old)
-            × (source.new ≡ source.old) × (sink.new ≡ sink.old))
-            ⊎ FoundByGet (D.state device.old) b (D.state device.new) }
+        × (source.new ≡ source.old) × (sink.new ≡ sink.old))
+        ⊎ FoundByGet (D.state device.old) b (D.state device.new) }
     // And where opening stops at a block nothing is served: the answer is that block, or the device failed, or
     // memory was short.
     ensures unopened { (b : ℕ) → FailsToOpen (D.state device.old) b
         → IsUnopened b result × (D.state device.new ≡ D.state device.old) × (source.new ≡ source.old)
-            × (sink.new ≡ sink.old) }
+        × (sink.new ≡ sink.old) }
     ensures turns { result ≡ Served.Turns → RoseBy (2 ^ 48) (S.pieces source.old) (S.pieces source.new) }
     ensures pieces { S.pieces source.new ≤ S.pieces source.old + 2 ^ 48 }
     ensures source_later { S.faults source.old ≤ S.faults source.new }

@@ -1,7 +1,6 @@
 use Rattle.std.proofs.Common.{ℕ, [], ap, inr, refl, subst, Err}
 use Rattle.lt_device.specs.State as told
-use Rattle.lt_serve.specs.Faults.{IsSound}
-use Rattle.lt_serve.specs.Serving.{TurnedOver}
+use Rattle.lt_serve.specs.Promise.{IsSound, TurnedOver}
 use Rattle.lt_serve.proofs.TurnLaws.{turned-unopened, unopened-named}
 use Rattle.lt_image.specs.Opening.{open_image}
 use Rattle.lt_serve.proofs.SizeLaws.{found-by-get}

@@ -2,7 +2,8 @@ use Rattle.std.proofs.Common.{◌≡◌, ◌≤◌, ℕ, List, ◌++◌, take, d
 use Rattle.std.proofs.lemmas.List.{take_all, take_rest}
 use Rattle.lt_serve.specs.declared.served.Served.TheVariants as served
 use Rattle.lt_serve.specs.Faults.{IsHalt}
-use Rattle.lt_serve.specs.Serving.{SteppedOn, SteppedOver}
+use Rattle.lt_serve.specs.Serving.{SteppedOn}
+use Rattle.lt_serve.specs.Promise.{SteppedOver}
 use Rattle.lt_serve.specs.View.{kept_in, store_in}
 use Rattle.lt_store.specs.Open.{extents_of}
 use Rattle.lt_serve.proofs.LineLaws.{taken-and-slice, taken-and-more}
