@@ -18,7 +18,7 @@ use Rattle.lt_store.specs.declared.writing.Taken.TheVariants as taken
 use Rattle.lt_htable.specs.declared.faults.LookFault.{LookFault}
 use Rattle.lt_htable.specs.declared.faults.LookFault.TheVariants as looks
 use Rattle.lt_store.specs.Acting.{IsStep, RepliesSeen, TellsSeen, reply_of}
-use Rattle.lt_store.specs.Faults.{IsLookFault}
+use Rattle.lt_store.specs.Faults.{fault_of_look}
 use Rattle.lt_store.specs.Getting.{AnswersSeen, Finds}
 use Rattle.lt_tables.specs.Merge.{value_of}
 use Rattle.lt_language.specs.Replies as replies
@@ -27,6 +27,8 @@ use Rattle.lt_store.specs.Going.{Goes}
 use Rattle.lt_store.specs.Open.{StoreView, IsOpen}
 use Rattle.lt_store.specs.Promise.{IsRooted}
 use Rattle.lt_store.specs.Taking.{accepted_by}
+use Rattle.lt_device.specs.declared.device.Device.{Ghosts}
+use Rattle.lt_store.specs.Writing.{WhileRooted, Writes}
 use Rattle.lt_store.proofs.GoLaws.{goes-none}
 use Rattle.lt_store.proofs.RootedLaws.{rooted-none}
 use Rattle.lt_image.proofs.KeptLaws.{no_writes}
@@ -83,7 +85,7 @@ module _ (up : Bool) (result : Result Taken WriteFault) (fault : WriteFault) (wa
 pub same-key : (a b : List ℕ) → ◌≡◌ {A = Option Command} (Some (commands.get a)) (Some (commands.get b)) → a ≡ b
 same-key a b h = cc
 
-pub tells-fault : (page : List ℕ) (seen : Result (Option Item) LookFault) (fault : LookFault) (told : WriteFault) → IsLookFault fault told → AnswersSeen page seen (Err fault) → TellsSeen seen page (Err told)
+pub tells-fault : (page : List ℕ) (seen : Result (Option Item) LookFault) (fault : LookFault) (told : WriteFault) → told ≡ fault_of_look fault → AnswersSeen page seen (Err fault) → TellsSeen seen page (Err told)
 tells-fault page seen looks.Device told is h = subst (λ (f : WriteFault). TellsSeen seen page (Err f)) (sym is) tt
 tells-fault page seen (looks.Damaged b) told is h = subst (λ (f : WriteFault). TellsSeen seen page (Err f)) (sym is) (by_seen seen h)
   where
@@ -126,3 +128,64 @@ same-item a b h = cc
 
 pub same-stat : (a b : Stat) → ◌≡◌ {A = Result Outcome WriteFault} (Ok (outcomes.Stat a)) (Ok (outcomes.Stat b)) → a ≡ b
 same-stat a b h = cc
+
+-- ---- a write's call as an event's
+
+-- the event answered what the call did
+pub record IsSame (call : Result Taken WriteFault) (event : Result Outcome WriteFault) : Type 0 where
+  pub to : (t : Taken) → event ≡ Ok (outcomes.Taken t) → call ≡ Ok t
+  pub from : (t : Taken) → call ≡ Ok t → event ≡ Ok (outcomes.Taken t)
+  pub fails : (f : WriteFault) → IsErrOf event f → IsErrOf call f
+
+pub same-ok : (call : Result Taken WriteFault) (t : Taken) → call ≡ Ok t → IsSame call (Ok (outcomes.Taken t))
+same-ok call t was = record {
+  to = λ u is. was ∙ ap Ok (same-taken t u is);
+  from = λ u is. ap (λ (x : Taken). Ok (outcomes.Taken x)) (same-answer t u (sym was ∙ is));
+  fails = λ f is. cc;
+}
+
+pub same-err : (call : Result Taken WriteFault) (event : Result Outcome WriteFault) (f : WriteFault) → call ≡ Err f → event ≡ Err f → IsSame call event
+same-err call event f was is = record {
+  to = λ t ok. cc;
+  from = λ t ok. cc;
+  fails = λ g failed. cc;
+}
+
+module _ {T : Type 0} (D : Ghosts T) (item : Item) (v w : StoreView) (call : Result Taken WriteFault) (event : Result Outcome WriteFault) (same : IsSame call event) (old new : T) where
+  pub event-writes : Writes D item v w (λ t. call ≡ Ok t) (λ f. IsErrOf call f) old new → Writes D item v w (λ t. event ≡ Ok (outcomes.Taken t)) (λ f. IsErrOf event f) old new
+  event-writes h = record {
+    unchanged = λ is. h.unchanged (same.to taken.Limit is);
+    not_due = λ due is. h.not_due due (same.to taken.Ok is);
+    memory = λ is. h.memory (same.fails NoMemory is);
+    at_once = λ due few room below. let there = h.at_once due few room below in (same.from taken.Ok there.0, there.1);
+    number = λ t is. h.number t (same.to t is);
+    same_number = λ is. h.same_number (same.fails NoMemory is);
+    regions = h.regions;
+    size = h.size;
+    later = h.later;
+    cause = λ is. h.cause (same.fails Device is);
+    refused = λ is. h.refused (same.fails NoMemory is);
+    full_images = λ needed free is. h.full_images needed free (same.to (taken.Full needed free) is);
+  }
+
+  pub event-rooted : WhileRooted D (Some item) v w (λ t. call ≡ Ok t) (λ f. IsErrOf call f) old new → WhileRooted D (Some item) v w (λ t. event ≡ Ok (outcomes.Taken t)) (λ f. IsErrOf event f) old new
+  event-rooted h = record {
+    rooted = h.rooted;
+    flushed = λ due is. h.flushed due (same.to taken.Ok is);
+    full_same = λ needed free is. h.full_same needed free (same.to (taken.Full needed free) is);
+    full_quiet = λ needed free is. h.full_quiet needed free (same.to (taken.Full needed free) is);
+    count = h.count;
+    undamaged = λ b is. h.undamaged b (same.fails (Damaged b) is);
+  }
+
+-- an event that writes nothing
+pub none-rooted : {T : Type 0} (D : Ghosts T) (v w : StoreView) (event : Result Outcome WriteFault) (old new : T) → ((needed free : ℕ) → event ≡ Ok (outcomes.Taken (taken.Full needed free)) → ⊥)
+    → ((d : State) → IsOpen v d (D.state old) → Leaves IsRooted (D.state old) (D.state new)) → WhileRooted D None v w (λ t. event ≡ Ok (outcomes.Taken t)) (λ f. IsErrOf event f) old new
+none-rooted D v w event old new other rooted = record {
+  rooted = rooted;
+  flushed = tt;
+  full_same = tt;
+  full_quiet = λ needed free is. absurd (other needed free is);
+  count = tt;
+  undamaged = tt;
+}

@@ -4,6 +4,7 @@ pub mod BuildLaws
 pub mod CommitLaws
 pub mod CountLaws
 pub mod CutLaws
+pub mod FilledLaws
 pub mod FilterLaws
 pub mod FlushLaws
 pub mod FullLaws
@@ -24,6 +25,6 @@ pub mod ReserveLaws
 pub mod RootedLaws
 pub mod SameLaws
 pub mod SeenLaws
+pub mod StopLaws
 pub mod TakeLaws
 pub mod WholeLaws
-pub mod StopLaws

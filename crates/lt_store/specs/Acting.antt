@@ -64,7 +64,8 @@ reply_of outcomes.Missing page = Some replies.none
 reply_of (outcomes.Stat s) page = Some (replies.stat s.writes s.reads s.tables s.free)
 reply_of outcomes.Committed page = None
 
--- a command with its reply is a step of the map machine in a store of e extents; a commit has no reply and leaves the state
+-- a command with its reply is a step of the map machine in a store of e extents; a commit has no reply and
+-- leaves the state
 abbrev pub IsStep : ℕ → State → Option Command → Option Reply → State → Type 0
 IsStep e s (Some command) (Some reply) s' = Step e s command reply s'
 IsStep e s None None s' = s' ≡ s
@@ -80,12 +81,14 @@ abbrev pub asked_by : StoreView → EventView → ℕ
 asked_by v (events.Get key) = asked v key.now
 asked_by v event = 0
 
--- a get's reply, where the key is seen like this: the value of the item, or none; a block that spells no bucket has no reply
+-- a get's reply, where the key is seen like this: the value of the item, or none; a block that spells no
+-- bucket has no reply
 abbrev pub RepliesSeen : Result (Option Item) LookFault → Option Reply → Type 0
 RepliesSeen (Ok item) reply = reply ≡ Some (found (value_of item))
 RepliesSeen (Err fault) reply = ⊥
 
--- what a get's event answers, where the key is seen like this: the reply, or the block that spells no bucket, unless the device failed
+-- what a get's event answers, where the key is seen like this: the reply, or the block that spells no bucket,
+-- unless the device failed
 abbrev pub TellsSeen : Result (Option Item) LookFault → List ℕ → Result Outcome WriteFault → Type 0
 TellsSeen seen page (Ok outcome) = RepliesSeen seen (reply_of outcome page)
 TellsSeen seen page (Err writes.Device) = Unit {0}

@@ -27,6 +27,7 @@ abbrev pub KeepsFilter : Geometry → List (Option (List ℕ)) → Image → ℕ
 KeepsFilter g kept image x = slice_index_or kept x None ≡ Some (extent_in g image x 64)
 
 -- the extent holds the table of these items, and its filter block is kept
-pub record HasTable (g : Geometry) (kept : List (Option (List ℕ))) (image : Image) (x : ℕ) (items : List Item) : Type 0 where
+pub record HasTable (g : Geometry) (kept : List (Option (List ℕ))) (image : Image) (x : ℕ)
+    (items : List Item) : Type 0 where
   pub placed : IsPlaced items (extent_in g image x)
   pub filter : KeepsFilter g kept image x

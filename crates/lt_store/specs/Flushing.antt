@@ -15,11 +15,12 @@ use Rattle.lt_format.specs.declared.header.Header.{Header}
 use Rattle.lt_format.specs.Changes.{flush}
 use Rattle.lt_format.specs.Naming.{Named, after_commit}
 use Rattle.lt_format.specs.Trie.{named}
-use Rattle.lt_redo.specs.LogState.{LogState, other_area}
+use Rattle.lt_redo.specs.LogState.{LogState, idle_log, other_area}
 use Rattle.lt_redo.specs.Slots.{HasLog}
 use Rattle.lt_image.specs.After.{PlacedIn}
 use Rattle.lt_image.specs.Standing.{Stands}
 use Rattle.lt_store.specs.Building.{KeepsFilter}
+use Rattle.lt_manifest.specs.Opened as opened
 use Rattle.lt_store.specs.Kept.{IsKept}
 use Rattle.lt_store.specs.Open.{StoreView}
 
@@ -39,17 +40,22 @@ pub record AreFree (m : Named) (numbers : List ℕ) : Type 0 where
 
 -- the header after a flush: the other log area, and all writes
 abbrev pub flush_header : StoreView → Header
-flush_header v = record { log_area = other_area v.named.manifest.header.log_area; extents = v.named.manifest.header.extents; writes = v.writes }
+flush_header v = record {
+  log_area = other_area v.named.manifest.header.log_area;
+  extents = v.named.manifest.header.extents;
+  writes = v.writes;
+}
 
 -- the log after a flush: the other area, empty, behind all writes
 abbrev pub flushed_log : LogState → Header → LogState
-flushed_log log header = record { geometry = log.geometry; area = other_area log.area; writes = header.writes; slots = 0; pending = []; cleared = false }
+flushed_log log header = idle_log log.geometry (other_area log.area) header.writes 0
 
 -- the store after a flush
 abbrev pub flushed : StoreView → Named → Header → StoreView
 flushed v n header = record v { named = n; log = flushed_log v.log header; memory = [] }
 
--- the other log area is empty, and the tables of the memory table's newest items stand in these extents, with their filters kept
+-- the other log area is empty, and the tables of the memory table's newest items stand in these extents, with
+-- their filters kept
 pub record IsPrepared (v : StoreView) (numbers : List ℕ) (image : Image) : Type 0 where
   pub clear : HasLog v.named.geometry (other_area v.named.manifest.header.log_area) v.writes [] image
   pub placed : PlacedIn v.named.geometry image numbers (cut (newest v.memory))
@@ -63,9 +69,11 @@ pub record IsShort (memory : List Item) (taken : List Bool) (short : Short) : Ty
 
 -- in each image that a crash may leave, the tables of the memory table's newest items stand in these extents
 abbrev pub HasTables : StoreView → List ℕ → told.State → Type 0
-HasTables v numbers device = (left : Image) → MayLeave device left → PlacedIn v.named.geometry left numbers (cut (newest v.memory))
+HasTables v numbers device = (left : Image) → MayLeave device left
+    → PlacedIn v.named.geometry left numbers (cut (newest v.memory))
 
--- The store was flushed: the tables of the memory table's newest items stand behind those of the root, and nothing else of the trie changed; the log is the other area's and empty, and so is the memory table.
+-- The store was flushed: the tables of the memory table's newest items stand behind those of the root, and
+-- nothing else of the trie changed; the log is the other area's and empty, and so is the memory table.
 pub record IsFlushed (v w : StoreView) (device : told.State) : Type 0 where
   pub numbers : List ℕ
   pub tables : HasTables v numbers device
@@ -73,3 +81,17 @@ pub record IsFlushed (v w : StoreView) (device : told.State) : Type 0 where
   pub log : w.log ≡ flushed_log v.log (flush_header v)
   pub memory : w.memory ≡ []
   pub writes : w.writes ≡ v.writes
+
+-- the store is down, with its extents, its number of writes, its geometry and the room for filters as before
+pub record StaysDown (v w : StoreView) : Type 0 where
+  pub down : w.is_up ≡ false
+  pub same_extents : w.taken ≡ v.taken
+  pub same_writes : w.writes ≡ v.writes
+  pub geometry : w.named.geometry ≡ v.named.geometry
+  pub room : length w.kept ≡ length v.kept
+
+-- the manifest was committed with these tables, and nothing but the filters differs from the store after a flush
+pub record HasCommitted (v w : StoreView) (numbers : List ℕ) : Type 0 where
+  pub manifest : w.named.manifest ≡ after_commit v.named.manifest (flush numbers) (flush_header v)
+  pub stands : opened.IsKept w.named
+  pub is : w ≡ flushed (record v { kept = w.kept }) w.named (flush_header v)

@@ -1,5 +1,7 @@
 -- What a get finds, and where it looks.
-use Rattle.std.specs.Prelude.{◌≡◌, ℕ, ◌+◌, ◌<◌, Bool, true, false, List, [], ◌∷◌, Option, Some, None, Result, Ok, Err, length, take, drop, count_by, slice_index, slice_index_or, IsTrue, if◌then◌else◌}
+use Rattle.std.specs.Prelude.{◌≡◌, ℕ, ◌+◌, ◌<◌, Bool, true, false, List, [], ◌∷◌, Option, Some, None, Result}
+use Rattle.std.specs.Prelude.{Ok, Err, length, take, drop, count_by, slice_index, slice_index_or, IsTrue}
+use Rattle.std.specs.Prelude.{if◌then◌else◌}
 use Rattle.std.specs.Option.{option_and_then, option_map_or, is_some}
 use Rattle.lt_terms.specs.Bytes.{Image, block_at, filled}
 use Rattle.lt_terms.specs.Items.{Item}
@@ -48,7 +50,8 @@ may_hold kept key x = option_map_or (λ page. covers page (home_column key) key)
 
 -- how many tables a get asks at most: none where the memory table has the key
 abbrev pub asked : StoreView → List ℕ → ℕ
-asked v key = if is_some (newest_of key v.memory) then 0 else count_by (may_hold v.kept key) (root_pile v.named.manifest.trie)
+asked v key = if is_some (newest_of key v.memory) then 0 else count_by (may_hold v.kept key)
+    (root_pile v.named.manifest.trie)
 
 -- how many tables of a pile a get asks at most from this place on
 abbrev pub asked_from : List (Option (List ℕ)) → List ℕ → List ℕ → ℕ → ℕ
@@ -68,7 +71,8 @@ pub record IsBucketOf (g : Geometry) (numbers : List ℕ) (block : ℕ) : Type 0
   pub is : block ≡ extent_block g number + column
 
 -- the table in an extent is that of its newest items, and holds the key only where its filter covers it
-pub record IsReadable (g : Geometry) (kept : List (Option (List ℕ))) (image : Image) (key : List ℕ) (x : ℕ) : Type 0 where
+pub record IsReadable (g : Geometry) (kept : List (Option (List ℕ))) (image : Image) (key : List ℕ)
+    (x : ℕ) : Type 0 where
   pub placed : IsPlaced (newest (items_at g image x)) (extent_in g image x)
   pub skipped : may_hold kept key x ≡ false → newest_of key (items_at g image x) ≡ None
 
@@ -107,37 +111,45 @@ abbrev pub KeepsUnless : Result (Option Version) LookFault → List ℕ → List
 KeepsUnless (Ok version) old new = KeepsRest (value_len version) old new
 KeepsUnless (Err fault) old new = new ≡ old
 
--- what the page of a key's home bucket, and where it sends the key that of the target, answer on it; the block, where such a page spells no bucket
+-- what the page of a key's home bucket, and where it sends the key that of the target, answer on it; the
+-- block, where such a page spells no bucket
 abbrev pub seen_in : Image → ℕ → List ℕ → Result (Option Item) LookFault
 seen_in image first key =
     let home = look_on (block_at image (first + home_column key)) key in
-    at_home first (home_column key) home (option_and_then (λ column. look_on (block_at image (first + column)) key) (target_of home))
+    at_home first (home_column key) home
+        (option_and_then (λ column. look_on (block_at image (first + column)) key) (target_of home))
 
 -- the filter of the table in an extent covers the key, as the image has it
 abbrev pub is_covered : Geometry → Image → List ℕ → ℕ → Bool
 is_covered g image key x = covers (extent_in g image x 64) (home_column key) key
 
--- what is seen of a key in one table: none where the table does not pass the test, as its filter does not cover the key
+-- what is seen of a key in one table: none where the table does not pass the test, as its filter does not
+-- cover the key
 abbrev pub seen_at : Geometry → (ℕ → Bool) → Image → List ℕ → ℕ → Result (Option Item) LookFault
 seen_at g holds image key x = if holds x then seen_in image (extent_block g x) key else Ok None
 
 -- the newer answer, where it is an item or a block; else the older one
-abbrev pub before_older : Result (Option Item) LookFault → Result (Option Item) LookFault → Result (Option Item) LookFault
+abbrev pub before_older : Result (Option Item) LookFault → Result (Option Item) LookFault
+    → Result (Option Item) LookFault
 before_older (Ok None) older = older
 before_older newer older = newer
 
--- what is seen of a key in the tables of a pile that pass the test: the newest that has an item of it decides, or one whose page spells no bucket
+-- what is seen of a key in the tables of a pile that pass the test: the newest that has an item of it
+-- decides, or one whose page spells no bucket
 abbrev pub seen : Geometry → (ℕ → Bool) → Image → List ℕ → List ℕ → Result (Option Item) LookFault
 seen g holds image key [] = Ok None
 seen g holds image key (x ∷ newer) = before_older (seen g holds image key newer) (seen_at g holds image key x)
 
 -- what a store sees of a key: its memory table is newer than the root's tables, whose filters it keeps
 abbrev pub seen_of : StoreView → Image → List ℕ → Result (Option Item) LookFault
-seen_of v image key = before_older (Ok (newest_of key v.memory)) (seen v.named.geometry (may_hold v.kept key) image key (root_pile v.named.manifest.trie))
+seen_of v image key = before_older (Ok (newest_of key v.memory))
+    (seen v.named.geometry (may_hold v.kept key) image key (root_pile v.named.manifest.trie))
 
 -- what is seen of a key on an image as it opens: its log is newer than the root's tables
 abbrev pub seen_on : Opened → Image → List ℕ → Result (Option Item) LookFault
-seen_on o image key = before_older (Ok (newest_of key (log_items o))) (seen o.named.geometry (is_covered o.named.geometry image key) image key (root_pile o.named.manifest.trie))
+seen_on o image key = before_older (Ok (newest_of key (log_items o)))
+    (seen o.named.geometry (is_covered o.named.geometry image key) image key
+    (root_pile o.named.manifest.trie))
 
 -- the answer is this fault, or that the device failed
 abbrev pub IsFaultOf : {T : Type 0} → LookFault → Result T LookFault → Type 0

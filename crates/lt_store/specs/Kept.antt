@@ -16,8 +16,11 @@ logged_count log memory = length memory - length log.pending
 abbrev pub logged : LogState → List Item → List Item
 logged log memory = take (logged_count log memory) memory
 
--- The log is that of the manifest; the memory table is the log's items and the pending ones, and fits; the number of writes counts them all; each group has an item; a group that is open has a slot; the extents that are taken are those that the manifest names, and there is a place for the filters of each.
-pub record IsKept (n : Named) (log : LogState) (memory : List Item) (taken : List Bool) (filters writes : ℕ) : Type 0 where
+-- The log is that of the manifest; the memory table is the log's items and the pending ones, and fits; the
+-- number of writes counts them all; each group has an item; a group that is open has a slot; the extents that
+-- are taken are those that the manifest names, and there is a place for the filters of each.
+pub record IsKept (n : Named) (log : LogState) (memory : List Item) (taken : List Bool)
+    (filters writes : ℕ) : Type 0 where
   pub manifest : opened.IsKept n
   pub geometry : log.geometry ≡ n.geometry
   pub area : log.area ≡ n.manifest.header.log_area

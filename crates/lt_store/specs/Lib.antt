@@ -13,3 +13,4 @@ pub mod Promise
 pub mod Reading
 pub mod Taking
 pub mod View
+pub mod Writing

@@ -6,16 +6,11 @@ use Rattle.lt_format.specs.declared.geometry.Geometry.{Geometry}
 use Rattle.lt_format.specs.Layout.{log_gate}
 use Rattle.lt_format.specs.Naming.{manifest_in}
 use Rattle.lt_manifest.specs.Opened.{fresh}
-use Rattle.lt_node.specs.declared.fault.CommitFault.{CommitFault}
-use Rattle.lt_node.specs.declared.fault.CommitFault.TheVariants as commits
 use Rattle.lt_redo.specs.Slots.{IsCleared}
-use Rattle.lt_store.specs.declared.faults.InitFault.{InitFault}
-use Rattle.lt_store.specs.declared.faults.InitFault.TheVariants as makes
 
--- the fault of committing a manifest as one of making a store
-abbrev pub IsSameFault : CommitFault → InitFault → Type 0
-IsSameFault commits.Device fault = fault ≡ makes.Device
-IsSameFault commits.NoMemory fault = fault ≡ makes.NoMemory
+-- the geometry with this many levels and slots
+abbrev pub geometry_of : ℕ → ℕ → Geometry
+geometry_of levels slots = record { levels = levels; slots = slots }
 
 -- the block is the superblock's, the manifest's or one of the first log area
 abbrev pub InFresh : Geometry → ℕ → Type 0

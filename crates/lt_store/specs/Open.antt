@@ -29,7 +29,9 @@ pub record StoreView : Type 0 where
 abbrev pub root_pile : Trie → List ℕ
 root_pile trie = (node_at trie root).tables
 
--- The store is open on a device at rest for the state `durable`, which its manifest and the groups of its log make; the memory table has their items and the pending ones, and the filters in memory are those of the root's tables.
+-- The store is open on a device at rest for the state `durable`, which its manifest and the groups of its log
+-- make; the memory table has their items and the pending ones, and the filters in memory are those of the
+-- root's tables.
 pub record IsOpen (v : StoreView) (durable : State) (device : told.State) : Type 0 where
   pub rest : AtRest durable device
   pub named : rest.named ≡ v.named

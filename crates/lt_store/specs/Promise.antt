@@ -1,4 +1,5 @@
--- What a reader must believe of the store: devices at rest, devices without a store and with a fresh one, and blocks that do not stand.
+-- What a reader must believe of the store: devices at rest, devices without a store and with a fresh one, and
+-- blocks that do not stand.
 use Rattle.std.specs.Prelude.{◌≡◌, ◌≢◌, ℕ, ◌+◌, ◌<◌, List, Option, Some, None, Err, IsTrue}
 use Rattle.std.specs.Option.{ForSome}
 use Rattle.lt_terms.specs.Bytes.{Image, block_at, zero_block}
@@ -18,7 +19,8 @@ use Rattle.lt_image.specs.OnPath.{has_only_root}
 use Rattle.lt_image.specs.Opening.{open_image}
 use Rattle.lt_image.specs.Standing.{Stands, is_free_block}
 
--- A device that tells its blocks and what a crash may leave: each image that it may leave stands for this state, and they are what the device reads as but for blocks of extents that the manifest does not name.
+-- A device that tells its blocks and what a crash may leave: each image that it may leave stands for this
+-- state, and they are what the device reads as but for blocks of extents that the manifest does not name.
 pub record AtRest (s : State) (device : told.State) : Type 0 where
   pub image : Image
   pub shown : device.shown ≡ Some image
@@ -60,7 +62,8 @@ pub record IsFresh (g : Geometry) (extents : ℕ) (device : told.State) : Type 0
 abbrev pub StopsOpening : told.State → ℕ → Type 0
 StopsOpening device b = ForSome device.shown (λ image. open_image image ≡ Err b)
 
--- A get of the key stops at this block: it is the block of a bucket of a table that the manifest names on the key's path, and where the device tells what it reads, the page there spells no bucket.
+-- A get of the key stops at this block: it is the block of a bucket of a table that the manifest names on the
+-- key's path, and where the device tells what it reads, the page there spells no bucket.
 pub record StopsGet (named : Named) (shown : Option Image) (key : List ℕ) (block : ℕ) : Type 0 where
   pub level : ℕ
   pub deep : level < named.geometry.levels

@@ -1,5 +1,6 @@
 -- What opening a store reads of an image, and where it may find damage.
-use Rattle.std.specs.Prelude.{◌≡◌, ℕ, ◌+◌, ◌<◌, true, false, List, [], Option, None, length, IsTrue, slice_index_or, Ok}
+use Rattle.std.specs.Prelude.{◌≡◌, ℕ, ◌+◌, ◌<◌, true, false, List, [], Option, None, length, IsTrue}
+use Rattle.std.specs.Prelude.{slice_index_or, Ok}
 use Rattle.std.specs.List.{AllByRecursion}
 use Rattle.lt_terms.specs.Bytes.{Image}
 use Rattle.lt_terms.specs.Items.{Item}
@@ -10,27 +11,22 @@ use Rattle.lt_format.specs.Layout.{is_geometry, extent_block}
 use Rattle.lt_format.specs.Naming.{Named}
 use Rattle.lt_format.specs.Trie.{named}
 use Rattle.lt_image.specs.Opening.{Opened, open_image, log_items, number_of}
-use Rattle.lt_redo.specs.LogState.{LogState}
+use Rattle.lt_redo.specs.LogState.{LogState, idle_log}
 use Rattle.lt_store.specs.Building.{KeepsFilter}
 use Rattle.lt_store.specs.Open.{StoreView, root_pile}
 
 -- the log that a manifest names, with this many groups and nothing pending
 abbrev pub log_at : Named → ℕ → LogState
-log_at n slots = record {
-  geometry = n.geometry;
-  area = n.manifest.header.log_area;
-  writes = n.manifest.header.writes;
-  slots = slots;
-  pending = [];
-  cleared = false;
-}
+log_at n slots = idle_log n.geometry n.manifest.header.log_area n.manifest.header.writes slots
 
 -- Exactly the filter blocks of these tables are kept.
-pub record KeepsFilters (g : Geometry) (kept : List (Option (List ℕ))) (tables : List ℕ) (image : Image) : Type 0 where
+pub record KeepsFilters (g : Geometry) (kept : List (Option (List ℕ))) (tables : List ℕ)
+    (image : Image) : Type 0 where
   pub each : AllByRecursion (KeepsFilter g kept image) tables
   pub others : (x : ℕ) → is_in x tables ≡ false → slice_index_or kept x None ≡ None
 
--- The store is what the image opens as: its manifest, its log with nothing pending, the items of the log, the extents that are named, and the filters of the root's tables.
+-- The store is what the image opens as: its manifest, its log with nothing pending, the items of the log, the
+-- extents that are named, and the filters of the root's tables.
 pub record Reads (v : StoreView) (image : Image) : Type 0 where
   pub opened : Opened
   pub opens : open_image image ≡ Ok opened
@@ -47,8 +43,10 @@ pub record IsBelowExtents (block : ℕ) : Type 0 where
   pub valid : IsTrue (is_geometry geometry)
   pub below : block < extent_block geometry 0
 
--- A store of what was read: it is up, with this manifest and log, the items of the log in memory, the extents that the manifest names taken, and these filters.
-pub record Assembles (n : Named) (log : LogState) (items : List Item) (kept : List (Option (List ℕ))) (v : StoreView) : Type 0 where
+-- A store of what was read: it is up, with this manifest and log, the items of the log in memory, the extents
+-- that the manifest names taken, and these filters.
+pub record Assembles (n : Named) (log : LogState) (items : List Item)
+    (kept : List (Option (List ℕ))) (v : StoreView) : Type 0 where
   pub up : v.is_up ≡ true
   pub named_is : v.named ≡ n
   pub log_is : v.log ≡ log

@@ -1,5 +1,6 @@
 -- What a write that was taken leaves, and when one is refused for want of extents.
-use Rattle.std.specs.Prelude.{◌≡◌, ℕ, ◌+◌, ◌<◌, Bool, ◌&&◌, ◌||◌, List, [], ◌∷◌, IsTrue, nat_le, nat_lt, ◌==◌, length, if◌then◌else◌}
+use Rattle.std.specs.Prelude.{◌≡◌, ℕ, ◌+◌, ◌<◌, Bool, ◌&&◌, ◌||◌, List, [], ◌∷◌, IsTrue, nat_le, nat_lt, ◌==◌}
+use Rattle.std.specs.Prelude.{length, if◌then◌else◌}
 use Rattle.lt_terms.specs.Items.{Item, total_cost}
 use Rattle.lt_tables.specs.Cut.{table_total}
 use Rattle.lt_tables.specs.Merge.{newest}
@@ -20,9 +21,11 @@ accepted_by item taken.Limit = []
 abbrev pub is_due : StoreView → Bool
 is_due v = length v.log.pending == 0 && (v.log.slots == v.named.geometry.slots || nat_lt 200000 (total_cost v.memory))
 
--- the store as a write of this cost finds it: its open group is committed where the item has no room in it, or where the memory table has too many bytes
+-- the store as a write of this cost finds it: its open group is committed where the item has no room in it,
+-- or where the memory table has too many bytes
 abbrev pub readied : StoreView → ℕ → StoreView
-readied v cost = if nat_le (total_cost v.log.pending + cost) group_room && nat_le (total_cost v.memory) 200000 then v else committed v
+readied v cost = if nat_le (total_cost v.log.pending + cost) group_room && nat_le
+    (total_cost v.memory) 200000 then v else committed v
 
 -- a flush is due, and gives more tables than extents are free
 pub record IsFull (v : StoreView) (needed free : ℕ) : Type 0 where

@@ -2,7 +2,8 @@
 use Rattle.lt_store.specs.declared.store.Store.{Store}
 use Rattle.lt_store.specs.Open.{StoreView}
 
--- what calls speak of: all fields but the geometry, which is the manifest's, the page, which holds any bytes, and a refusal, which memory table and extents tell
+-- what calls speak of: all fields but the geometry, which is the manifest's, the page, which holds any bytes,
+-- and a refusal, which memory table and extents tell
 abbrev pub view_of : Store → StoreView
 view_of s = record {
   is_up = s.is_up;

@@ -1,6 +1,8 @@
 //! The calls of a store as events.
 
-ghost use Rattle.std.specs.Prelude.{◌≡◌, ◌≢◌, ◌↔◌, ℕ, List, ◌+◌, ◌*◌, ◌<◌, ◌≤◌, true, false, [], Ok, Some, IfOk, IsErrOf, IsSome, IsTrue, OnErr, OnOk, length};
+ghost use Rattle.std.specs.Prelude.{IfSome};
+ghost use Rattle.std.specs.Prelude.{◌≡◌, ◌≢◌, ◌↔◌, ℕ, List, ◌+◌, ◌*◌, ◌<◌, ◌≤◌, true, false, []};
+ghost use Rattle.std.specs.Prelude.{Ok, Some, IfOk, IsErrOf, IsSome, IsTrue, OnErr, OnOk, length};
 ghost use Rattle.lt_terms.specs.Bytes.{Image};
 ghost use Rattle.lt_terms.specs.Causes.{Rose};
 ghost use Rattle.lt_terms.specs.Items as terms;
@@ -12,17 +14,21 @@ ghost use Rattle.lt_image.specs.Counts.{HasCounts};
 ghost use Rattle.lt_image.specs.Standing.{after_writes};
 ghost use Rattle.lt_language.specs.Commands as commands;
 ghost use Rattle.lt_language.specs.Machine.{State, most_writes};
-ghost use Rattle.lt_store.specs.Acting.{IsStep, IsStopped, KeepsOut, MayAct, TellsSeen, accepted_as, asked_by, command_of, only_asks, reply_of, write_of};
+ghost use Rattle.lt_store.specs.Acting.{IsStep, IsStopped, KeepsOut, MayAct, TellsSeen};
+ghost use Rattle.lt_store.specs.Acting.{accepted_as, asked_by, command_of, only_asks, reply_of};
+ghost use Rattle.lt_store.specs.Acting.{write_of};
 ghost use Rattle.lt_store.specs.Committing.{StandsForEither, committed};
 ghost use Rattle.lt_store.specs.Counts.{stat_of};
 ghost use Rattle.lt_store.specs.Flushing.{IsFlushed};
 ghost use Rattle.lt_store.specs.Getting.{seen_of};
 ghost use Rattle.lt_store.specs.Going.{Goes, Survives, appended};
-ghost use Rattle.lt_store.specs.Open.{SameRegions, IsOpen, StoreView, blocks_of, extents_of, root_pile, state_of};
+ghost use Rattle.lt_store.specs.Open.{SameRegions, IsOpen, StoreView, blocks_of, extents_of};
+ghost use Rattle.lt_store.specs.Open.{root_pile, state_of};
 ghost use Rattle.lt_store.specs.Promise.{IsRooted};
 ghost use Rattle.lt_image.specs.Counts.{IsFullImage};
 ghost use Rattle.lt_store.specs.Taking.{is_due, readied, IsFull};
 ghost use Rattle.lt_store.specs.View.{view_of};
+ghost use Rattle.lt_store.specs.Writing.{WhileRooted, Writes};
 
 use crate::counts::Stat;
 use crate::faults::WriteFault;
@@ -70,65 +76,83 @@ impl Store {
         requires within { blocks_of (view_of self.old) ≤ D.blocks device.old }
 
         // The command and its outcome are a step of the map machine.
-        ensures step { IfOk result (λ outcome. (durable : State) → IsOpen (view_of self.old) durable (D.state device.old)
-            → IsStep (extents_of (view_of self.old)) (state_of (view_of self.old) durable) (command_of event.entry) (reply_of outcome out.new) (after_writes (state_of (view_of self.old) durable) (accepted_as outcome (write_of event.entry)))) }
+        ensures step { IfOk result (λ outcome. (durable : State)
+            → IsOpen (view_of self.old) durable (D.state device.old)
+            → IsStep (extents_of (view_of self.old)) (state_of (view_of self.old) durable)
+            (command_of event.entry) (reply_of outcome out.new)
+            (after_writes (state_of (view_of self.old) durable)
+            (accepted_as outcome (write_of event.entry)))) }
 
         // The store goes on, with the write that was taken; and whatever it answers, nothing is lost at any moment.
-        ensures goes { IfOk result (λ outcome. (durable : State) → IsOpen (view_of self.old) durable (D.state device.old)
-            → Goes (view_of self.old) (accepted_as outcome (write_of event.entry)) (view_of self.new) durable (D.state device.old) (D.state device.new)) }
-        ensures goes_on { OnErr result (self.new.is_up ≡ true → (durable : State) → IsOpen (view_of self.old) durable (D.state device.old)
-            → Goes (view_of self.old) [] (view_of self.new) durable (D.state device.old) (D.state device.new)) }
-        ensures broken { OnErr result ((durable : State) → IsOpen (view_of self.old) durable (D.state device.old)
+        ensures goes { IfOk result (λ outcome. (durable : State)
+            → IsOpen (view_of self.old) durable (D.state device.old)
+            → Goes (view_of self.old) (accepted_as outcome (write_of event.entry))
+            (view_of self.new) durable (D.state device.old) (D.state device.new)) }
+        ensures goes_on { OnErr result (self.new.is_up ≡ true → (durable : State)
+            → IsOpen (view_of self.old) durable (D.state device.old)
+            → Goes (view_of self.old) [] (view_of self.new) durable (D.state device.old)
+            (D.state device.new)) }
+        ensures broken { OnErr result ((durable : State)
+            → IsOpen (view_of self.old) durable (D.state device.old)
             → Survives (view_of self.old) [] durable (D.state device.old) (D.state device.new)) }
 
         // The open group is there as a whole, or not at all.
         ensures whole { (durable : State) → IsOpen (view_of self.old) durable (D.state device.old)
-            → Leaves (StandsForEither durable (state_of (view_of self.old) durable)) (D.state device.old) (D.state device.new) }
+            → Leaves (StandsForEither durable (state_of (view_of self.old) durable))
+            (D.state device.old) (D.state device.new) }
 
-        ensures rooted { (durable : State) → IsOpen (view_of self.old) durable (D.state device.old) → Leaves IsRooted (D.state device.old) (D.state device.new) }
-        ensures committed { command_of event.entry ≡ None → OnOk result (view_of self.new ≡ committed (view_of self.old)) }
-        ensures asked { IsTrue (only_asks event.entry) → (view_of self.new ≡ view_of self.old) × (D.state device.new ≡ D.state device.old) }
-        ensures limit { (result ≡ Ok (Outcome.Taken Taken.Limit)) ↔ (IsSome (write_of event.entry) × ((view_of self.old).writes ≡ most_writes)) }
-        ensures full { (needed free : ℕ) → result ≡ Ok (Outcome.Taken (Taken.Full needed free)) → IsFull (view_of self.new) needed free }
-        ensures full_images { (needed free : ℕ) → result ≡ Ok (Outcome.Taken (Taken.Full needed free)) → (durable : State) → IsOpen (view_of self.old) durable (D.state device.old)
-            → (left : Image) → MayLeave (D.state device.new) left → IsFullImage left needed free }
-        ensures at_once { (item : terms.Item) → write_of event.entry ≡ Some item → is_due (view_of self.old) ≡ false → total_cost (view_of self.old).memory ≤ 200000 → total_cost (view_of self.old).log.pending + item_cost item ≤ group_room → (view_of self.old).writes ≢ most_writes
-            → (result ≡ Ok (Outcome.Taken Taken.Ok)) × (device.new ≡ device.old) }
+        ensures committed { command_of event.entry ≡ None
+            → OnOk result (view_of self.new ≡ committed (view_of self.old)) }
+        ensures asked { IsTrue (only_asks event.entry) → (view_of self.new ≡ view_of self.old)
+            × (D.state device.new ≡ D.state device.old) }
+        ensures limit { (result ≡ Ok (Outcome.Taken Taken.Limit)) ↔ (IsSome (write_of event.entry)
+            × ((view_of self.old).writes ≡ most_writes)) }
+        ensures full { (needed free : ℕ) → result ≡ Ok (Outcome.Taken (Taken.Full needed free))
+            → IsFull (view_of self.new) needed free }
 
-        // A write at the limit changes nothing. Else the open group is committed where there is no room, and a flush comes exactly where one is due then.
-        ensures unchanged { result ≡ Ok (Outcome.Taken Taken.Limit) → (view_of self.new ≡ view_of self.old) × (device.new ≡ device.old) }
-        ensures not_due { (item : terms.Item) → write_of event.entry ≡ Some item → is_due (readied (view_of self.old) (item_cost item)) ≡ false → result ≡ Ok (Outcome.Taken Taken.Ok)
-            → view_of self.new ≡ appended (readied (view_of self.old) (item_cost item)) item }
-        ensures flushed { (item : terms.Item) → write_of event.entry ≡ Some item → is_due (readied (view_of self.old) (item_cost item)) ≡ true → result ≡ Ok (Outcome.Taken Taken.Ok) → (durable : State) → IsOpen (view_of self.old) durable (D.state device.old)
-            → (flushed : StoreView) × IsFlushed (readied (view_of self.old) (item_cost item)) flushed (D.state device.new) × (view_of self.new ≡ appended flushed item) }
-        ensures full_same { (item : terms.Item) → write_of event.entry ≡ Some item → (needed free : ℕ) → result ≡ Ok (Outcome.Taken (Taken.Full needed free)) → view_of self.new ≡ readied (view_of self.old) (item_cost item) }
-        ensures full_quiet { (needed free : ℕ) → result ≡ Ok (Outcome.Taken (Taken.Full needed free)) → (view_of self.old).log.pending ≡ [] → device.new ≡ device.old }
-        ensures memory_due { (item : terms.Item) → write_of event.entry ≡ Some item → IsErrOf result WriteFault.NoMemory → is_due (readied (view_of self.old) (item_cost item)) ≡ true }
+        // A put or a delete.
+        ensures writes { IfSome (write_of event.entry)
+            (λ item. Writes D.Device item (view_of self.old) (view_of self.new)
+            (λ answer. result ≡ Ok (Outcome.Taken answer)) (λ fault. IsErrOf result fault)
+            device.old device.new) }
+        ensures while_rooted { WhileRooted D.Device (write_of event.entry) (view_of self.old)
+            (view_of self.new)
+            (λ answer. result ≡ Ok (Outcome.Taken answer)) (λ fault. IsErrOf result fault)
+            device.old device.new }
 
-        ensures idle { command_of event.entry ≡ None → (view_of self.old).log.pending ≡ [] → (result ≡ Ok Outcome.Committed) × (device.new ≡ device.old) }
+        ensures idle { command_of event.entry ≡ None → (view_of self.old).log.pending ≡ []
+            → (result ≡ Ok Outcome.Committed) × (device.new ≡ device.old) }
         // The numbers of the store and its device at this moment, and those of each image that a crash may leave.
-        ensures stat { (s : Stat) → result ≡ Ok (Outcome.Stat s) → s ≡ stat_of (view_of self.old) (D.reads device.old) }
+        ensures stat { (s : Stat) → result ≡ Ok (Outcome.Stat s)
+            → s ≡ stat_of (view_of self.old) (D.reads device.old) }
         ensures stat_images { (s : Stat) → result ≡ Ok (Outcome.Stat s)
             → (durable : State) → IsOpen (view_of self.old) durable (D.state device.old)
             → (left : Image) → MayLeave (D.state device.old) left → HasCounts left s.tables s.free }
-        ensures number { IfOk result (λ outcome. (view_of self.new).writes ≡ (view_of self.old).writes + length (accepted_as outcome (write_of event.entry))) }
-        ensures same_number { OnErr result (self.new.is_up ≡ true → (view_of self.new).writes ≡ (view_of self.old).writes) }
         ensures page { KeepsOut result out.old out.new }
 
         // Whatever the blocks hold, a get answers what it sees of the key, or the block that spells no bucket.
-        ensures seen { (key : List ℕ) (image : Image) → command_of event.entry ≡ Some (commands.get key)
-            → (D.state device.old).shown ≡ Some image → TellsSeen (seen_of (view_of self.old) image key) out.new result }
+        ensures seen { (key : List ℕ) (image : Image)
+            → command_of event.entry ≡ Some (commands.get key)
+            → (D.state device.old).shown ≡ Some image
+            → TellsSeen (seen_of (view_of self.old) image key) out.new result }
         ensures value { (n : ℕ) → result ≡ Ok (Outcome.Value n) → n ≤ 3000 }
         ensures memory { IsErrOf result WriteFault.NoMemory → IsSome (write_of event.entry) }
         ensures damaged { (b : ℕ) → IsErrOf result (WriteFault.Damaged b)
             → IsStopped (view_of self.old).named (D.state device.new).shown event.entry b }
-        ensures sound { (b : ℕ) (durable : State) → IsOpen (view_of self.old) durable (D.state device.old) → IsErrOf result (WriteFault.Damaged b) → ⊥ }
-        ensures cause { IsErrOf result WriteFault.Device → Rose (D.faults device.old) (D.faults device.new) }
+        ensures sound { (b : ℕ) (durable : State)
+            → IsOpen (view_of self.old) durable (D.state device.old)
+            → IsErrOf result (WriteFault.Damaged b) → ⊥ }
+        ensures cause { IsErrOf result WriteFault.Device
+            → Rose (D.faults device.old) (D.faults device.new) }
         ensures later { D.faults device.old ≤ D.faults device.new }
-        ensures up { (self.new.is_up ≡ false) ↔ (IsErrOf result WriteFault.Device × (only_asks event.entry ≡ false)) }
-        ensures regions { self.new.is_up ≡ true → SameRegions (view_of self.old) (view_of self.new) }
+        ensures up { (self.new.is_up ≡ false) ↔ (IsErrOf result WriteFault.Device
+            × (only_asks event.entry ≡ false)) }
+        ensures regions { self.new.is_up ≡ true
+            → SameRegions (view_of self.old) (view_of self.new) }
         ensures size { D.blocks device.new ≡ D.blocks device.old }
-        ensures count { CountsAtMost (2 * asked_by (view_of self.old) event.entry) (D.reads device.old) (D.reads device.new) }
+        ensures count { write_of event.entry ≡ None
+            → CountsAtMost (2 * asked_by (view_of self.old) event.entry) (D.reads device.old)
+            (D.reads device.new) }
     {
         match event {
             EventView::Put { key, value } => {

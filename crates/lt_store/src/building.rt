@@ -1,9 +1,11 @@
 //! Tables of the root, written into free extents.
 
-ghost use Rattle.std.specs.Prelude.{◌≡◌, false, ℕ, ◌+◌, ◌<◌, ◌≤◌, None, OnOk, IsErrOf, IsTrue, length, map, All, Some, vec_len, slice_index_or};
+ghost use Rattle.std.specs.Prelude.{◌≡◌, false, ℕ, ◌+◌, ◌<◌, ◌≤◌, None, OnOk, IsErrOf, IsTrue};
+ghost use Rattle.std.specs.Prelude.{length, map, All, Some, vec_len, slice_index_or};
 ghost use Rattle.std.specs.List.{AllZip};
 ghost use Rattle.lt_terms.specs.Bytes.{Image};
 ghost use Rattle.lt_terms.specs.Causes.{Rose};
+ghost use Rattle.lt_device.specs.Calls.{OnlyWrites};
 ghost use Rattle.lt_device.specs.Moments.{ConfinedTo, ShowsSameOutside};
 ghost use Rattle.lt_format.specs.Layout.{blocks_needed};
 ghost use Rattle.lt_format.specs.Trie.{all_distinct, all_below};
@@ -31,16 +33,19 @@ pub(super) fn build_tables<D: Device>(
     requires distinct { IsTrue (all_distinct numbers.now) }
     requires below { IsTrue (all_below (length filters.old) numbers.now) }
     requires within { blocks_needed geometry.now (length filters.old) ≤ D.blocks device.old }
-    ensures built { OnOk result ((before image : Image) → (D.state device.old).shown ≡ Some before → (D.state device.new).shown ≡ Some image → AllZip (HasTable geometry.now filters.new image) numbers.now (map (λ table. table.now) tables.now)) }
-    ensures filters { (x : ℕ) → is_in x numbers.now ≡ false → slice_index_or filters.new x None ≡ slice_index_or filters.old x None }
+    ensures built { OnOk result ((before image : Image) → (D.state device.old).shown ≡ Some before
+        → (D.state device.new).shown ≡ Some image
+        → AllZip (HasTable geometry.now filters.new image) numbers.now
+        (map (λ table. table.now) tables.now)) }
+    ensures filters { (x : ℕ) → is_in x numbers.now ≡ false
+        → slice_index_or filters.new x None ≡ slice_index_or filters.old x None }
 
     // Whatever it answers, it touches no other block.
-    ensures confined { ConfinedTo (InExtents geometry.now numbers.now) (D.state device.old) (D.state device.new) }
-    ensures others { ShowsSameOutside (InExtents geometry.now numbers.now) (D.state device.old).shown (D.state device.new).shown }
-    ensures size { D.blocks device.new ≡ D.blocks device.old }
-    ensures count { D.reads device.new ≡ D.reads device.old }
-    ensures later { D.faults device.old ≤ D.faults device.new }
-    ensures cause { IsErrOf result BuildFault.Device → Rose (D.faults device.old) (D.faults device.new) }
+    ensures confined { ConfinedTo (InExtents geometry.now numbers.now) (D.state device.old)
+        (D.state device.new) }
+    ensures others { ShowsSameOutside (InExtents geometry.now numbers.now)
+        (D.state device.old).shown (D.state device.new).shown }
+    ensures calls { OnlyWrites D.Device (IsErrOf result BuildFault.Device) device.old device.new }
 {
     for (turn, number) in numbers.iter().enumerate() {
         let built = build(alloc, device, geometry.extent(*number), tables[turn])?;

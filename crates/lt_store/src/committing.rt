@@ -1,7 +1,9 @@
 //! Making writes durable.
 
+ghost use Rattle.std.specs.Prelude.{IsErr};
 ghost use Rattle.std.specs.Prelude.{◌≡◌, ◌≤◌, ◌<◌, true, false, [], OnOk, OnErr, IsOk, length};
 ghost use Rattle.lt_terms.specs.Causes.{HasCause};
+ghost use Rattle.lt_device.specs.Calls.{OnlyWrites};
 ghost use Rattle.lt_device.specs.Moments.{Leaves};
 ghost use Rattle.lt_language.specs.Machine.{State};
 ghost use Rattle.lt_store.specs.Open.{IsOpen, blocks_of, state_of};
@@ -26,16 +28,22 @@ impl Store {
         ensures idle { self.old.log.pending ≡ [] → (IsOk result × (device.new ≡ device.old)) }
 
         // All that was pending is durable; and whatever it answers, nothing is lost at any moment.
-        ensures opened { OnOk result ((durable : State) → IsOpen (view_of self.old) durable (D.state device.old) → Goes (view_of self.old) [] (view_of self.new) durable (D.state device.old) (D.state device.new)) }
-        ensures broken { OnErr result ((durable : State) → IsOpen (view_of self.old) durable (D.state device.old) → Survives (view_of self.old) [] durable (D.state device.old) (D.state device.new)) }
+        ensures opened { OnOk result ((durable : State)
+            → IsOpen (view_of self.old) durable (D.state device.old)
+            → Goes (view_of self.old) [] (view_of self.new) durable (D.state device.old)
+            (D.state device.new)) }
+        ensures broken { OnErr result ((durable : State)
+            → IsOpen (view_of self.old) durable (D.state device.old)
+            → Survives (view_of self.old) [] durable (D.state device.old) (D.state device.new)) }
 
         // The open group is there as a whole, or not at all.
-        ensures whole { (durable : State) → IsOpen (view_of self.old) durable (D.state device.old) → Leaves (StandsForEither durable (state_of (view_of self.old) durable)) (D.state device.old) (D.state device.new) }
+        ensures whole { (durable : State) → IsOpen (view_of self.old) durable (D.state device.old)
+            → Leaves (StandsForEither durable (state_of (view_of self.old) durable))
+            (D.state device.old) (D.state device.new) }
 
-        ensures rooted { (durable : State) → IsOpen (view_of self.old) durable (D.state device.old) → Leaves IsRooted (D.state device.old) (D.state device.new) }
-        ensures size { D.blocks device.new ≡ D.blocks device.old }
-        ensures count { D.reads device.new ≡ D.reads device.old }
-        ensures cause { HasCause (D.faults device.old) (D.faults device.new) result }
+        ensures rooted { (durable : State) → IsOpen (view_of self.old) durable (D.state device.old)
+            → Leaves IsRooted (D.state device.old) (D.state device.new) }
+        ensures calls { OnlyWrites D.Device (IsErr result) device.old device.new }
     {
         match self.log.commit(device) {
             Ok(()) => Ok(()),

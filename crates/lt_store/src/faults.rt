@@ -40,14 +40,84 @@ impl From<NoMemory> for InitFault {
 }
 
 impl From<CommitFault> for InitFault {
-    ghost use Rattle.lt_store.specs.Making.{IsSameFault};
+    ghost use Rattle.std.specs.Prelude.{◌≡◌};
+    ghost use Rattle.lt_store.specs.Faults.{init_fault_of};
 
-    ghost from_gives = { IsSameFault };
+    ghost from_gives = { λ commit fault. fault ≡ init_fault_of commit };
 
     fn from(fault: CommitFault) -> InitFault {
         match fault {
             CommitFault::Device => InitFault::Device,
             CommitFault::NoMemory => InitFault::NoMemory,
+        }
+    }
+}
+
+/// Why a flush did not come to its end.
+#[derive(Clone, Copy, Debug, PartialEq, Eq)]
+pub(super) enum FlushFault {
+    /// The device failed. Its count of faults rose.
+    Device,
+    NoMemory,
+}
+
+impl From<Failed> for FlushFault {
+    ghost use Rattle.std.specs.Prelude.{◌≡◌};
+    ghost use Rattle.lt_store.specs.declared.faults.FlushFault.TheVariants.{Device};
+
+    ghost from_gives = { λ _ fault. fault ≡ Device };
+
+    fn from(_: Failed) -> FlushFault {
+        FlushFault::Device
+    }
+}
+
+impl From<NoMemory> for FlushFault {
+    ghost use Rattle.std.specs.Prelude.{◌≡◌};
+    ghost use Rattle.lt_store.specs.declared.faults.FlushFault.TheVariants as faults;
+
+    ghost from_gives = { λ _ fault. fault ≡ faults.NoMemory };
+
+    fn from(_: NoMemory) -> FlushFault {
+        FlushFault::NoMemory
+    }
+}
+
+impl From<AllocError> for FlushFault {
+    ghost use Rattle.std.specs.Prelude.{◌≡◌};
+    ghost use Rattle.lt_store.specs.declared.faults.FlushFault.TheVariants as faults;
+
+    ghost from_gives = { λ _ fault. fault ≡ faults.NoMemory };
+
+    fn from(_: AllocError) -> FlushFault {
+        FlushFault::NoMemory
+    }
+}
+
+impl From<BuildFault> for FlushFault {
+    ghost use Rattle.std.specs.Prelude.{◌≡◌};
+    ghost use Rattle.lt_store.specs.Faults.{fault_of_build};
+
+    ghost from_gives = { λ build fault. fault ≡ fault_of_build build };
+
+    fn from(fault: BuildFault) -> FlushFault {
+        match fault {
+            BuildFault::Device => FlushFault::Device,
+            BuildFault::NoMemory => FlushFault::NoMemory,
+        }
+    }
+}
+
+impl From<CommitFault> for FlushFault {
+    ghost use Rattle.std.specs.Prelude.{◌≡◌};
+    ghost use Rattle.lt_store.specs.Faults.{fault_of_commit};
+
+    ghost from_gives = { λ commit fault. fault ≡ fault_of_commit commit };
+
+    fn from(fault: CommitFault) -> FlushFault {
+        match fault {
+            CommitFault::Device => FlushFault::Device,
+            CommitFault::NoMemory => FlushFault::NoMemory,
         }
     }
 }
@@ -74,9 +144,10 @@ impl From<Failed> for WriteFault {
 }
 
 impl From<LookFault> for WriteFault {
-    ghost use Rattle.lt_store.specs.Faults.{IsLookFault};
+    ghost use Rattle.std.specs.Prelude.{◌≡◌};
+    ghost use Rattle.lt_store.specs.Faults.{fault_of_look};
 
-    ghost from_gives = { IsLookFault };
+    ghost from_gives = { λ look fault. fault ≡ fault_of_look look };
 
     fn from(fault: LookFault) -> WriteFault {
         match fault {
@@ -86,50 +157,16 @@ impl From<LookFault> for WriteFault {
     }
 }
 
-impl From<NoMemory> for WriteFault {
+impl From<FlushFault> for WriteFault {
     ghost use Rattle.std.specs.Prelude.{◌≡◌};
-    ghost use Rattle.lt_store.specs.declared.faults.WriteFault.TheVariants as faults;
+    ghost use Rattle.lt_store.specs.Faults.{fault_of_flush};
 
-    ghost from_gives = { λ _ fault. fault ≡ faults.NoMemory };
+    ghost from_gives = { λ flush fault. fault ≡ fault_of_flush flush };
 
-    fn from(_: NoMemory) -> WriteFault {
-        WriteFault::NoMemory
-    }
-}
-
-impl From<BuildFault> for WriteFault {
-    ghost use Rattle.lt_store.specs.Faults.{IsBuildFault};
-
-    ghost from_gives = { IsBuildFault };
-
-    fn from(fault: BuildFault) -> WriteFault {
+    fn from(fault: FlushFault) -> WriteFault {
         match fault {
-            BuildFault::Device => WriteFault::Device,
-            BuildFault::NoMemory => WriteFault::NoMemory,
+            FlushFault::Device => WriteFault::Device,
+            FlushFault::NoMemory => WriteFault::NoMemory,
         }
-    }
-}
-
-impl From<CommitFault> for WriteFault {
-    ghost use Rattle.lt_store.specs.Faults.{IsCommitFault};
-
-    ghost from_gives = { IsCommitFault };
-
-    fn from(fault: CommitFault) -> WriteFault {
-        match fault {
-            CommitFault::Device => WriteFault::Device,
-            CommitFault::NoMemory => WriteFault::NoMemory,
-        }
-    }
-}
-
-impl From<AllocError> for WriteFault {
-    ghost use Rattle.std.specs.Prelude.{◌≡◌};
-    ghost use Rattle.lt_store.specs.declared.faults.WriteFault.TheVariants as faults;
-
-    ghost from_gives = { λ _ fault. fault ≡ faults.NoMemory };
-
-    fn from(_: AllocError) -> WriteFault {
-        WriteFault::NoMemory
     }
 }

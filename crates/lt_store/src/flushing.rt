@@ -1,8 +1,11 @@
 //! Flushes: the newest items of the memory table become tables of the root.
 
-ghost use Rattle.std.specs.Prelude.{◌≡◌, ℕ, ◌+◌, ◌<◌, ◌≤◌, true, false, Bool, List, [], Ok, Some, None, All, IfOk, IfSome, IsErrOf, IsOk, IsTrue, ◌||◌, ◌↔◌, OnOk, length, map};
+ghost use Rattle.std.specs.Prelude.{◌≡◌, ℕ, ◌+◌, ◌<◌, ◌≤◌, true, false, Bool, List, [], Ok, Some};
+ghost use Rattle.std.specs.Prelude.{None, All, IfOk, IfSome, IsErrOf, IsOk, IsTrue, ◌||◌, ◌↔◌};
+ghost use Rattle.std.specs.Prelude.{OnOk, length, map};
 ghost use Rattle.lt_terms.specs.Bytes.{Image};
 ghost use Rattle.lt_terms.specs.Causes.{Rose};
+ghost use Rattle.lt_device.specs.Calls.{OnlyWrites};
 ghost use Rattle.lt_device.specs.Moments.{Leaves};
 ghost use Rattle.lt_language.specs.Machine.{State};
 ghost use Rattle.lt_tables.specs.Cut.{cut, table_total};
@@ -13,7 +16,9 @@ ghost use Rattle.lt_format.specs.Naming.{after_commit};
 ghost use Rattle.lt_format.specs.Trie.{all_distinct};
 ghost use Rattle.lt_manifest.specs.Opened as opened;
 ghost use Rattle.lt_store.specs.Building.{IsPart};
-ghost use Rattle.lt_store.specs.Flushing.{AreFree, HasTables, IsFlushed, IsPrepared, IsShort, SomeKept, Stays, flush_header, flushed};
+ghost use Rattle.lt_store.specs.Flushing.{HasCommitted, StaysDown};
+ghost use Rattle.lt_store.specs.Flushing.{AreFree, HasTables, IsFlushed, IsPrepared, IsShort};
+ghost use Rattle.lt_store.specs.Flushing.{SomeKept, Stays, flush_header, flushed};
 ghost use Rattle.lt_alloc.specs.declared.extents.Short.{Short};
 ghost use Rattle.lt_alloc.specs.Extents.{is_free};
 ghost use Rattle.lt_terms.specs.Numbers.{is_in};
@@ -24,7 +29,7 @@ ghost use Rattle.lt_store.specs.View.{view_of};
 
 use crate::building::build_tables;
 use crate::cutting::tables_of;
-use crate::faults::WriteFault;
+use crate::faults::FlushFault;
 use crate::store::Store;
 use lt_alloc::{Extents, Short};
 use lt_bucket::Item;
@@ -40,30 +45,36 @@ impl Store {
         &mut self,
         alloc: Global,
         device: &mut D,
-    ) -> Result<Option<Short>, WriteFault>
+    ) -> Result<Option<Short>, FlushFault>
         requires up { self.old.is_up ≡ true }
         requires idle { self.old.log.pending ≡ [] }
         requires some { 0 < length (view_of self.old).memory }
         requires within { blocks_of (view_of self.old) ≤ D.blocks device.old }
 
         // Each image since stands for what was durable; and the store is open for that.
-        ensures stays { (durable : State) → IsOpen (view_of self.old) durable (D.state device.old) → Stays durable (D.state device.old) (D.state device.new) }
-        ensures rooted { (durable : State) → IsOpen (view_of self.old) durable (D.state device.old) → Leaves IsRooted (D.state device.old) (D.state device.new) }
-        ensures opened { IsOk result → (durable : State) → IsOpen (view_of self.old) durable (D.state device.old) → IsOpen (view_of self.new) durable (D.state device.new) }
-        ensures opened_again { IsErrOf result WriteFault.NoMemory → (durable : State) → IsOpen (view_of self.old) durable (D.state device.old) → IsOpen (view_of self.new) durable (D.state device.new) }
+        ensures stays { (durable : State) → IsOpen (view_of self.old) durable (D.state device.old)
+            → Stays durable (D.state device.old) (D.state device.new) }
+        ensures rooted { (durable : State) → IsOpen (view_of self.old) durable (D.state device.old)
+            → Leaves IsRooted (D.state device.old) (D.state device.new) }
+        ensures opened { self.new.is_up ≡ true → (durable : State)
+            → IsOpen (view_of self.old) durable (D.state device.old)
+            → IsOpen (view_of self.new) durable (D.state device.new) }
 
-        ensures flushed { result ≡ Ok None → (durable : State) → IsOpen (view_of self.old) durable (D.state device.old) → IsFlushed (view_of self.old) (view_of self.new) (D.state device.new) }
-        ensures done { result ≡ Ok None → ((view_of self.new).memory ≡ []) × (self.new.log.slots ≡ 0) × (self.new.log.pending ≡ []) }
-        ensures short { (short : Short) → result ≡ Ok (Some short) → IsShort (view_of self.old).memory (view_of self.old).taken short × (view_of self.new ≡ view_of self.old) × (device.new ≡ device.old) }
-        ensures idle { IsErrOf result WriteFault.NoMemory → self.new.log.pending ≡ [] }
-        ensures up { (self.new.is_up ≡ false) ↔ IsErrOf result WriteFault.Device }
+        ensures flushed { result ≡ Ok None → (durable : State)
+            → IsOpen (view_of self.old) durable (D.state device.old)
+            → IsFlushed (view_of self.old) (view_of self.new) (D.state device.new) }
+        ensures done { result ≡ Ok None → ((view_of self.new).memory ≡ [])
+            × (self.new.log.slots ≡ 0) × (self.new.log.pending ≡ []) }
+        ensures short { (short : Short) → result ≡ Ok (Some short)
+            → IsShort (view_of self.old).memory (view_of self.old).taken short
+            × (view_of self.new ≡ view_of self.old) × (device.new ≡ device.old) }
+        ensures idle { self.new.is_up ≡ true → self.new.log.pending ≡ [] }
+        ensures up { (self.new.is_up ≡ false) ↔ IsErrOf result FlushFault.Device }
         ensures writes { self.new.writes ≡ self.old.writes }
-        ensures undamaged { (b : ℕ) → IsErrOf result (WriteFault.Damaged b) → ⊥ }
-        ensures regions { self.new.is_up ≡ true → SameRegions (view_of self.old) (view_of self.new) }
-        ensures size { D.blocks device.new ≡ D.blocks device.old }
-        ensures count { D.reads device.new ≡ D.reads device.old }
-        ensures later { D.faults device.old ≤ D.faults device.new }
-        ensures cause { IsErrOf result WriteFault.Device → Rose (D.faults device.old) (D.faults device.new) }
+        ensures regions { self.new.is_up ≡ true
+            → SameRegions (view_of self.old) (view_of self.new) }
+        ensures calls { OnlyWrites D.Device (IsErrOf result FlushFault.Device)
+            device.old device.new }
     {
         if let Some(short) = self.refused {
             return Ok(Some(short));
@@ -81,13 +92,12 @@ impl Store {
                 self.is_up = true;
                 Ok(None)
             }
-            Err(WriteFault::NoMemory) => {
+            Err(FlushFault::NoMemory) => {
                 give_back(&mut self.extents, &numbers);
                 self.is_up = true;
-                Err(WriteFault::NoMemory)
+                Err(FlushFault::NoMemory)
             }
-            Err(WriteFault::Device) => Err(WriteFault::Device),
-            Err(WriteFault::Damaged(block)) => Err(WriteFault::Damaged(block)),
+            Err(FlushFault::Device) => Err(FlushFault::Device),
         }
     }
 
@@ -100,11 +110,12 @@ impl Store {
         device: &mut D,
         tables: &[&[Item]],
         numbers: &[u32],
-    ) -> Result<(), WriteFault>
+    ) -> Result<(), FlushFault>
         requires down { self.old.is_up ≡ false }
         requires kept { SomeKept (view_of self.old) }
         requires idle { self.old.log.pending ≡ [] }
-        requires tables { map (λ table. table.now) tables.now ≡ cut (newest (view_of self.old).memory) }
+        requires tables { map (λ table. table.now) tables.now ≡ cut
+            (newest (view_of self.old).memory) }
         requires parts { All (λ table. IsPart table.now) tables.now }
         requires same_count { length tables.now ≡ length numbers.now }
         requires some { 1 ≤ length numbers.now }
@@ -113,36 +124,40 @@ impl Store {
         requires within { blocks_of (view_of self.old) ≤ D.blocks device.old }
 
         // Each image since stands for what was durable; and the store is open as it is then.
-        ensures stays { (durable : State) → IsOpen (view_of self.old) durable (D.state device.old) → Stays durable (D.state device.old) (D.state device.new) }
-        ensures rooted { (durable : State) → IsOpen (view_of self.old) durable (D.state device.old) → Leaves IsRooted (D.state device.old) (D.state device.new) }
-        ensures opened { OnOk result ((durable : State) → IsOpen (view_of self.old) durable (D.state device.old) → IsOpen (view_of self.new) durable (D.state device.new)) }
-        ensures opened_again { IsErrOf result WriteFault.NoMemory → (durable : State) → IsOpen (view_of self.old) durable (D.state device.old) → IsOpen (view_of self.new) durable (D.state device.new) }
+        ensures stays { (durable : State) → IsOpen (view_of self.old) durable (D.state device.old)
+            → Stays durable (D.state device.old) (D.state device.new) }
+        ensures rooted { (durable : State) → IsOpen (view_of self.old) durable (D.state device.old)
+            → Leaves IsRooted (D.state device.old) (D.state device.new) }
+        ensures opened { OnOk result ((durable : State)
+            → IsOpen (view_of self.old) durable (D.state device.old)
+            → IsOpen (view_of self.new) durable (D.state device.new)) }
+        ensures opened_again { IsErrOf result FlushFault.NoMemory → (durable : State)
+            → IsOpen (view_of self.old) durable (D.state device.old)
+            → IsOpen (view_of self.new) durable (D.state device.new) }
 
-        ensures tables { OnOk result ((durable : State) → IsOpen (view_of self.old) durable (D.state device.old) → HasTables (view_of self.old) numbers.now (D.state device.new)) }
-        ensures manifest { OnOk result ((view_of self.new).named.manifest ≡ after_commit (view_of self.old).named.manifest (flush numbers.now) (flush_header (view_of self.old))) }
-        ensures stands { OnOk result (opened.IsKept (view_of self.new).named) }
-        ensures flushed { OnOk result (view_of self.new ≡ flushed (record (view_of self.old) { kept = (view_of self.new).kept }) (view_of self.new).named (flush_header (view_of self.old))) }
-        ensures kept { IsErrOf result WriteFault.NoMemory → (taken : List Bool) → IsKept (view_of self.old).named (view_of self.old).log (view_of self.old).memory taken (length (view_of self.old).kept) (view_of self.old).writes
-            → IsKept (view_of self.new).named (view_of self.new).log (view_of self.new).memory taken (length (view_of self.new).kept) (view_of self.new).writes }
-        ensures down { self.new.is_up ≡ false }
-        ensures taken { self.new.extents ≡ self.old.extents }
-        ensures writes { self.new.writes ≡ self.old.writes }
+        ensures tables { OnOk result ((durable : State)
+            → IsOpen (view_of self.old) durable (D.state device.old)
+            → HasTables (view_of self.old) numbers.now (D.state device.new)) }
+        ensures kept { IsErrOf result FlushFault.NoMemory → (taken : List Bool)
+            → IsKept (view_of self.old).named (view_of self.old).log (view_of self.old).memory taken
+            (length (view_of self.old).kept) (view_of self.old).writes
+            → IsKept (view_of self.new).named (view_of self.new).log (view_of self.new).memory taken
+            (length (view_of self.new).kept) (view_of self.new).writes }
+        ensures committed { OnOk result
+            (HasCommitted (view_of self.old) (view_of self.new) numbers.now) }
+        ensures stays_down { StaysDown (view_of self.old) (view_of self.new) }
         ensures refused { self.new.refused ≡ self.old.refused }
-        ensures memory { IsErrOf result WriteFault.NoMemory → (view_of self.new).memory ≡ (view_of self.old).memory }
-        ensures idle { IsErrOf result WriteFault.NoMemory → self.new.log.pending ≡ [] }
-        ensures undamaged { (b : ℕ) → IsErrOf result (WriteFault.Damaged b) → ⊥ }
-        ensures filters { length (view_of self.new).kept ≡ length (view_of self.old).kept }
-        ensures geometry { (view_of self.new).named.geometry ≡ (view_of self.old).named.geometry }
-        ensures size { D.blocks device.new ≡ D.blocks device.old }
-        ensures count { D.reads device.new ≡ D.reads device.old }
-        ensures later { D.faults device.old ≤ D.faults device.new }
-        ensures cause { IsErrOf result WriteFault.Device → Rose (D.faults device.old) (D.faults device.new) }
+        ensures memory { IsErrOf result FlushFault.NoMemory
+            → (view_of self.new).memory ≡ (view_of self.old).memory }
+        ensures idle { IsErrOf result FlushFault.NoMemory → self.new.log.pending ≡ [] }
+        ensures calls { OnlyWrites D.Device (IsErrOf result FlushFault.Device)
+            device.old device.new }
     {
         self.log.clear_other(device)?;
         build_tables(
             alloc,
             device,
-            &self.geometry,
+            self.manifest.geometry(),
             tables,
             numbers,
             &mut self.filters,
@@ -157,7 +172,7 @@ impl Store {
         alloc: Global,
         device: &mut D,
         numbers: &[u32],
-    ) -> Result<(), WriteFault>
+    ) -> Result<(), FlushFault>
         requires down { self.old.is_up ≡ false }
         requires kept { SomeKept (view_of self.old) }
         requires idle { self.old.log.pending ≡ [] }
@@ -167,25 +182,29 @@ impl Store {
         requires free { AreFree (view_of self.old).named numbers.now }
         requires within { blocks_of (view_of self.old) ≤ D.blocks device.old }
 
-        ensures stays { (durable : State) (o : IsOpen (view_of self.old) durable (D.state device.old)) → IsPrepared (view_of self.old) numbers.now o.rest.image → Stays durable (D.state device.old) (D.state device.new) }
-        ensures rooted { (durable : State) → IsOpen (view_of self.old) durable (D.state device.old) → Leaves IsRooted (D.state device.old) (D.state device.new) }
-        ensures opened { OnOk result ((durable : State) (o : IsOpen (view_of self.old) durable (D.state device.old)) → IsPrepared (view_of self.old) numbers.now o.rest.image → IsOpen (view_of self.new) durable (D.state device.new)) }
-        ensures tables { OnOk result ((durable : State) (o : IsOpen (view_of self.old) durable (D.state device.old)) → IsPrepared (view_of self.old) numbers.now o.rest.image → HasTables (view_of self.old) numbers.now (D.state device.new)) }
-        ensures manifest { OnOk result ((view_of self.new).named.manifest ≡ after_commit (view_of self.old).named.manifest (flush numbers.now) (flush_header (view_of self.old))) }
-        ensures stands { OnOk result (opened.IsKept (view_of self.new).named) }
-        ensures flushed { OnOk result (view_of self.new ≡ flushed (view_of self.old) (view_of self.new).named (flush_header (view_of self.old))) }
-        ensures unchanged { IsErrOf result WriteFault.NoMemory → (view_of self.new ≡ view_of self.old) × (device.new ≡ device.old) }
-        ensures down { self.new.is_up ≡ false }
-        ensures taken { self.new.extents ≡ self.old.extents }
-        ensures writes { self.new.writes ≡ self.old.writes }
+        ensures stays { (durable : State)
+            (o : IsOpen (view_of self.old) durable (D.state device.old))
+            → IsPrepared (view_of self.old) numbers.now o.rest.image
+            → Stays durable (D.state device.old) (D.state device.new) }
+        ensures rooted { (durable : State) → IsOpen (view_of self.old) durable (D.state device.old)
+            → Leaves IsRooted (D.state device.old) (D.state device.new) }
+        ensures opened { OnOk result
+            ((durable : State) (o : IsOpen (view_of self.old) durable (D.state device.old))
+            → IsPrepared (view_of self.old) numbers.now o.rest.image
+            → IsOpen (view_of self.new) durable (D.state device.new)) }
+        ensures tables { OnOk result
+            ((durable : State) (o : IsOpen (view_of self.old) durable (D.state device.old))
+            → IsPrepared (view_of self.old) numbers.now o.rest.image
+            → HasTables (view_of self.old) numbers.now (D.state device.new)) }
+        ensures unchanged { IsErrOf result FlushFault.NoMemory
+            → (view_of self.new ≡ view_of self.old) × (device.new ≡ device.old) }
+        ensures committed { OnOk result
+            (HasCommitted (view_of self.old) (view_of self.new) numbers.now) }
+        ensures stays_down { StaysDown (view_of self.old) (view_of self.new) }
         ensures refused { self.new.refused ≡ self.old.refused }
-        ensures undamaged { (b : ℕ) → IsErrOf result (WriteFault.Damaged b) → ⊥ }
         ensures filters { (view_of self.new).kept ≡ (view_of self.old).kept }
-        ensures geometry { (view_of self.new).named.geometry ≡ (view_of self.old).named.geometry }
-        ensures size { D.blocks device.new ≡ D.blocks device.old }
-        ensures count { D.reads device.new ≡ D.reads device.old }
-        ensures later { D.faults device.old ≤ D.faults device.new }
-        ensures cause { IsErrOf result WriteFault.Device → Rose (D.faults device.old) (D.faults device.new) }
+        ensures calls { OnlyWrites D.Device (IsErrOf result FlushFault.Device)
+            device.old device.new }
     {
         let change = Change::Flush {
             tables: Numbers::of(Vec::from_slice(alloc, numbers)?),
@@ -208,7 +227,8 @@ fn give_back(extents: &mut Extents, numbers: &[u32])
     requires distinct { IsTrue (all_distinct numbers.now) }
     requires below { (x : ℕ) → is_in x numbers.now ≡ true → x < length extents.old }
     requires taken { (x : ℕ) → is_in x numbers.now ≡ true → is_free extents.old x ≡ false }
-    ensures free { (x : ℕ) → x < length extents.old → is_free extents.new x ≡ (is_free extents.old x || is_in x numbers.now) }
+    ensures free { (x : ℕ) → x < length extents.old
+        → is_free extents.new x ≡ (is_free extents.old x || is_in x numbers.now) }
     ensures extents { length extents.new ≡ length extents.old }
 {
     for number in numbers {

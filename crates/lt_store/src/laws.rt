@@ -17,19 +17,29 @@ ghost use Rattle.lt_store.specs.Reading.{Reads};
 /// Nothing happened; and a call that went on, or failed, behind those that went on.
 pub fn goes_compose()
     ensures none { (v : StoreView) (d : State) (s : told.State) → IsOpen v d s → Goes v [] v d s s }
-    ensures more { (v w x : StoreView) (a b : List Item) (d : State) (old mid new : told.State) (g : Goes v a w d old mid)
-        → Goes w b x (after_writes d (take g.sure (v.log.pending ++ a))) mid new → Goes v (a ++ b) x d old new }
-    ensures breaks { (v w : StoreView) (a : List Item) (d : State) (old mid new : told.State) (g : Goes v a w d old mid)
-        → Survives w [] (after_writes d (take g.sure (v.log.pending ++ a))) mid new → Survives v a d old new }
-    ensures state { (v w : StoreView) (a : List Item) (d : State) (old new : told.State) (g : Goes v a w d old new)
-        → state_of w (after_writes d (take g.sure (v.log.pending ++ a))) ≡ after_writes (state_of v d) a }
+    ensures more { (v w x : StoreView) (a b : List Item) (d : State) (old mid new : told.State)
+        (g : Goes v a w d old mid)
+        → Goes w b x (after_writes d (take g.sure (v.log.pending ++ a))) mid new
+        → Goes v (a ++ b) x d old new }
+    ensures breaks { (v w : StoreView) (a : List Item) (d : State) (old mid new : told.State)
+        (g : Goes v a w d old mid)
+        → Survives w [] (after_writes d (take g.sure (v.log.pending ++ a))) mid new
+        → Survives v a d old new }
+    ensures state { (v w : StoreView) (a : List Item) (d : State) (old new : told.State)
+        (g : Goes v a w d old new)
+        → state_of w (after_writes d (take g.sure (v.log.pending ++ a))) ≡ after_writes
+        (state_of v d) a }
 {}
 
 /// A device with an open store on it is at rest, and so is one with a fresh store, and one that a crash left.
 pub fn open_rests()
     ensures opened { (v : StoreView) (d : State) (s : told.State) → IsOpen v d s → Rests d s }
-    ensures rooted { (v : StoreView) (d : State) (s : told.State) → IsOpen v d s → (left : Image) → MayLeave s left → IsRooted left }
-    ensures crashed { (d : State) (s : told.State) (image : Image) → s.shown ≡ Some image → MayLeave s image → UnsyncedIn (λ _. ⊥) s → Stands image d → IsRooted image → Rests d s }
-    ensures seen { (v : StoreView) (image : Image) (r : Reads v image) (key : List ℕ) → seen_of v image key ≡ seen_on r.opened image key }
-    ensures fresh { (g : Geometry) (extents : ℕ) (s : told.State) → IsFresh g extents s → Rests nothing_yet s }
+    ensures rooted { (v : StoreView) (d : State) (s : told.State) → IsOpen v d s → (left : Image)
+        → MayLeave s left → IsRooted left }
+    ensures crashed { (d : State) (s : told.State) (image : Image) → s.shown ≡ Some image
+        → MayLeave s image → UnsyncedIn (λ _. ⊥) s → Stands image d → IsRooted image → Rests d s }
+    ensures seen { (v : StoreView) (image : Image) (r : Reads v image) (key : List ℕ)
+        → seen_of v image key ≡ seen_on r.opened image key }
+    ensures fresh { (g : Geometry) (extents : ℕ) (s : told.State) → IsFresh g extents s
+        → Rests nothing_yet s }
 {}

@@ -1,14 +1,17 @@
 //! Making a store on a device.
 
-ghost use Rattle.std.specs.Prelude.{◌≡◌, ◌≢◌, ℕ, ◌<◌, ◌≤◌, ◌↔◌, Bool, false, List, Some, IfOk, OnOk, IsErrOf, IsTrue};
+ghost use Rattle.std.specs.Prelude.{IsErr};
+ghost use Rattle.std.specs.Prelude.{◌≡◌, ◌≢◌, ℕ, ◌<◌, ◌≤◌, ◌↔◌, Bool, false, List, Some, IfOk};
+ghost use Rattle.std.specs.Prelude.{OnOk, IsErrOf, IsTrue};
 ghost use Rattle.std.specs.Option.{ForSome};
 ghost use Rattle.lt_terms.specs.Bytes.{block_at, zero_block};
 ghost use Rattle.lt_terms.specs.Causes.{CountsOne, HasCause, Rose};
+ghost use Rattle.lt_device.specs.Calls.{OnlyReads, OnlyWrites, ReadsAndWrites};
 ghost use Rattle.lt_device.specs.Moments.{ConfinedTo};
 ghost use Rattle.lt_device.specs.State.{IsFit, synced, written};
 ghost use Rattle.lt_format.specs.Layout.{is_geometry, blocks_needed, superblock, gate_page};
 ghost use Rattle.lt_format.specs.Snapshot.{extents_stand};
-ghost use Rattle.lt_store.specs.Making.{InFresh, HasRegions};
+ghost use Rattle.lt_store.specs.Making.{InFresh, geometry_of, HasRegions};
 ghost use Rattle.lt_store.specs.Promise.{IsFresh, IsOccupied, IsVacant};
 
 use super::faults::InitFault;
@@ -32,30 +35,31 @@ pub fn init<D: Device>(
     levels: u8,
     slots: u16,
 ) -> Result<(), InitFault>
-    requires geometry { IsTrue (is_geometry (record { levels = levels; slots = slots })) }
+    requires geometry { IsTrue (is_geometry (geometry_of levels slots)) }
     requires least { 1 ≤ extents }
     requires most { extents ≤ 65536 }
 
     // Where the device tells what a crash may leave.
     ensures fresh { OnOk result ((flags : List Bool) → (D.state device.new).unsynced ≡ Some flags
-        → IsFresh (record { levels = levels; slots = slots }) extents (D.state device.new)) }
+        → IsFresh (geometry_of levels slots) extents (D.state device.new)) }
     ensures vacant { OnOk result (IsVacant (D.state device.old)) }
-    ensures room { OnOk result (blocks_needed (record { levels = levels; slots = slots }) extents ≤ D.blocks device.old) }
+    ensures room { OnOk result (blocks_needed (geometry_of levels slots) extents ≤ D.blocks device.old) }
 
-    ensures small { D.blocks device.old < blocks_needed (record { levels = levels; slots = slots }) extents
-        → IsErrOf result (InitFault.TooSmall (blocks_needed (record { levels = levels; slots = slots }) extents) (D.blocks device.old)) × (device.new ≡ device.old) }
+    ensures small { D.blocks device.old < blocks_needed (geometry_of levels slots) extents
+        → IsErrOf result (InitFault.TooSmall (blocks_needed (geometry_of levels slots) extents)
+            (D.blocks device.old)) × (device.new ≡ device.old) }
     ensures too_small { (needed has : ℕ) → IsErrOf result (InitFault.TooSmall needed has)
-        → D.blocks device.old < blocks_needed (record { levels = levels; slots = slots }) extents }
+        → D.blocks device.old < blocks_needed (geometry_of levels slots) extents }
     ensures occupied { IsErrOf result InitFault.Occupied → IsOccupied (D.state device.old) }
-    ensures unwritten { IsErrOf result InitFault.Occupied → D.state device.new ≡ D.state device.old }
-    ensures kept { ForSome (D.state device.old).shown (λ image. block_at image 0 ≢ zero_block → D.state device.new ≡ D.state device.old) }
+    ensures unwritten { IsErrOf result InitFault.Occupied
+        → D.state device.new ≡ D.state device.old }
+    ensures kept { ForSome (D.state device.old).shown (λ image. block_at image 0 ≢ zero_block
+        → D.state device.new ≡ D.state device.old) }
 
     // Whatever it answers, it touches no other block.
-    ensures confined { ConfinedTo (InFresh (record { levels = levels; slots = slots })) (D.state device.old) (D.state device.new) }
-    ensures cause { IsErrOf result InitFault.Device → Rose (D.faults device.old) (D.faults device.new) }
-    ensures later { D.faults device.old ≤ D.faults device.new }
-    ensures size { D.blocks device.new ≡ D.blocks device.old }
-    ensures count { CountsOne (D.reads device.old) (D.reads device.new) }
+    ensures confined { ConfinedTo (InFresh (geometry_of levels slots)) (D.state device.old) (D.state device.new) }
+    ensures calls { ReadsAndWrites D.Device 1 (IsErrOf result InitFault.Device) device.old
+        device.new }
 {
     let geometry = Geometry { levels, slots };
     let needed = geometry.needed(extents);
@@ -75,11 +79,10 @@ pub fn init<D: Device>(
 /// Whether block 0 is all zero.
 fn is_vacant<D: Device>(device: &mut D, page: &mut Page) -> Result<bool, Failed>
     requires { 0 < D.blocks device.old }
-    ensures vacant { IfOk result (λ vacant. ForSome (D.state device.old).shown (λ image. IsTrue vacant ↔ (block_at image 0 ≡ zero_block))) }
-    ensures state { D.state device.new ≡ D.state device.old }
-    ensures size { D.blocks device.new ≡ D.blocks device.old }
-    ensures count { CountsOne (D.reads device.old) (D.reads device.new) }
-    ensures cause { HasCause (D.faults device.old) (D.faults device.new) result }
+    ensures vacant { IfOk result
+        (λ vacant. ForSome (D.state device.old).shown
+        (λ image. IsTrue vacant ↔ (block_at image 0 ≡ zero_block))) }
+    ensures calls { OnlyReads D.Device 1 (IsErr result) device.old device.new }
 {
     device.read(0, page)?;
     Ok(page.is_zero())
@@ -96,12 +99,10 @@ fn write_regions<D: Device>(
 ) -> Result<(), CommitFault>
     requires valid { IsTrue (is_geometry geometry.now) }
     requires stands { IsTrue (extents_stand geometry.now (D.blocks device.old) extents) }
-    ensures regions { OnOk result ((flags : List Bool) → (D.state device.new).unsynced ≡ Some flags → HasRegions geometry.now extents (D.state device.new)) }
+    ensures regions { OnOk result ((flags : List Bool) → (D.state device.new).unsynced ≡ Some flags
+        → HasRegions geometry.now extents (D.state device.new)) }
     ensures confined { ConfinedTo (InFresh geometry.now) (D.state device.old) (D.state device.new) }
-    ensures cause { IsErrOf result CommitFault.Device → Rose (D.faults device.old) (D.faults device.new) }
-    ensures later { D.faults device.old ≤ D.faults device.new }
-    ensures size { D.blocks device.new ≡ D.blocks device.old }
-    ensures count { D.reads device.new ≡ D.reads device.old }
+    ensures calls { OnlyWrites D.Device (IsErrOf result CommitFault.Device) device.old device.new }
 {
     write_gate(page, false);
     close_gates(device, geometry, 0, page)?;
@@ -117,12 +118,12 @@ fn write_superblock<D: Device>(
     page: &mut Page,
 ) -> Result<(), Failed>
     requires { 0 < D.blocks device.old }
-    ensures written { OnOk result (D.state device.new ≡ synced (written (D.state device.old) 0 (superblock geometry.now))) }
-    ensures fit { OnOk result (IsFit (D.blocks device.old) (written (D.state device.old) 0 (superblock geometry.now))) }
+    ensures written { OnOk result
+        (D.state device.new ≡ synced (written (D.state device.old) 0 (superblock geometry.now))) }
+    ensures fit { OnOk result
+        (IsFit (D.blocks device.old) (written (D.state device.old) 0 (superblock geometry.now))) }
     ensures confined { ConfinedTo (λ n. n ≡ 0) (D.state device.old) (D.state device.new) }
-    ensures cause { HasCause (D.faults device.old) (D.faults device.new) result }
-    ensures size { D.blocks device.new ≡ D.blocks device.old }
-    ensures count { D.reads device.new ≡ D.reads device.old }
+    ensures calls { OnlyWrites D.Device (IsErr result) device.old device.new }
 {
     write_super(page, geometry);
     device.write(0, page)?;

@@ -1,6 +1,7 @@
 //! Opening a store: its manifest, its log and the filters of the root's tables are read.
 
-ghost use Rattle.std.specs.Prelude.{◌≡◌, ℕ, ◌+◌, ◌*◌, ◌<◌, ◌≤◌, Ok, Err, None, [], ◌∷◌, ◌++◌, true, length, vec_len, IfOk, IsErrOf, IsTrue, replicate};
+ghost use Rattle.std.specs.Prelude.{◌≡◌, ℕ, ◌+◌, ◌*◌, ◌<◌, ◌≤◌, Ok, Err, None, [], ◌∷◌, ◌++◌, true};
+ghost use Rattle.std.specs.Prelude.{length, vec_len, IfOk, IsErrOf, IsTrue, replicate};
 ghost use Rattle.std.specs.List.{list_all};
 ghost use Rattle.std.specs.Option.{ForSome};
 ghost use Rattle.lt_terms.specs.Bytes.{block_at};
@@ -9,6 +10,7 @@ ghost use Rattle.lt_terms.specs.Items.{is_valid, item_cost, total_cost};
 ghost use Rattle.lt_item.specs.Views.{item_of};
 ghost use Rattle.lt_mem.specs.Index.{table_room};
 ghost use Rattle.lt_alloc.specs.Extents.{AreTaken};
+ghost use Rattle.lt_device.specs.Calls.{OnlyReads};
 ghost use Rattle.lt_device.specs.Reads.{CountsAtMost};
 ghost use Rattle.lt_language.specs.Machine.{State};
 ghost use Rattle.lt_format.specs.Layout.{is_geometry, extent_block, blocks_needed};
@@ -28,7 +30,7 @@ use lt_alloc::Extents;
 use lt_bloom::FilterPage;
 use lt_bucket::Item;
 use lt_device::Device;
-use lt_format::{Geometry, NodeId};
+use lt_format::NodeId;
 use lt_htable::{BuildFault, read_filters};
 use lt_item::{ItemView, Kind};
 use lt_manifest::{Manifest, OpenFault, read_geometry};
@@ -55,52 +57,55 @@ impl Store {
         ensures room { IfOk result (λ store. blocks_of (view_of store) ≤ D.blocks device.new) }
 
         // On a device that tells its blocks the store is what they open as.
-        ensures reads { IfOk result (λ store. ForSome (D.state device.old).shown (Reads (view_of store))) }
+        ensures reads { IfOk result
+            (λ store. ForSome (D.state device.old).shown (Reads (view_of store))) }
 
         // On a device at rest it is open for what the device stands for.
-        ensures opened { IfOk result (λ store. (s : State) (r : Rests s (D.state device.old)) → IsOpen (view_of store) s (D.state device.new) × (extents_of (view_of store) ≡ r.rest.named.manifest.header.extents)) }
+        ensures opened { IfOk result (λ store. (s : State) (r : Rests s (D.state device.old))
+            → IsOpen (view_of store) s (D.state device.new)
+            × (extents_of (view_of store) ≡ r.rest.named.manifest.header.extents)) }
 
-        ensures damaged { (b : ℕ) → IsErrOf result (OpenFault.Damaged b) → StopsOpening (D.state device.old) b }
-        ensures at_rest { (s : State) → AtRest s (D.state device.old) → (b : ℕ) → IsErrOf result (OpenFault.Damaged b) → ⊥ }
+        ensures damaged { (b : ℕ) → IsErrOf result (OpenFault.Damaged b)
+            → StopsOpening (D.state device.old) b }
+        ensures at_rest { (s : State) → AtRest s (D.state device.old) → (b : ℕ)
+            → IsErrOf result (OpenFault.Damaged b) → ⊥ }
         ensures damaged_block { (b : ℕ) → IsErrOf result (OpenFault.Damaged b) → IsBelowExtents b }
-        ensures cause { IsErrOf result OpenFault.Device → Rose (D.faults device.old) (D.faults device.new) }
-        ensures later { D.faults device.old ≤ D.faults device.new }
-        ensures state { D.state device.new ≡ D.state device.old }
-        ensures size { D.blocks device.new ≡ D.blocks device.old }
-        ensures count { IfOk result (λ store. CountsAtMost (307 + 2 * (view_of store).named.geometry.slots + length (root_pile (view_of store).named.manifest.trie)) (D.reads device.old) (D.reads device.new)) }
-        // The most slots and the most extents that there may be.
-        ensures count_at_most { CountsAtMost (307 + 2 * 512 + 65536) (D.reads device.old) (D.reads device.new) }
+        // At most for the most slots and the most extents that there may be; and for those that there are.
+        ensures calls { OnlyReads D.Device (307 + 2 * 512 + 65536) (IsErrOf result OpenFault.Device)
+            device.old device.new }
+        ensures count { IfOk result (λ store. CountsAtMost
+            (307 + 2 * (view_of store).named.geometry.slots + length
+            (root_pile (view_of store).named.manifest.trie))
+            (D.reads device.old) (D.reads device.new)) }
     {
-        let (geometry, manifest) = read_manifest(alloc, device)?;
-        let (log, items) = read_log(alloc, device, &geometry, &manifest)?;
-        let filters = root_filters(alloc, device, &geometry, &manifest)?;
-        Ok(Store::of(alloc, geometry, manifest, log, &items, filters)?)
+        let manifest = read_manifest(alloc, device)?;
+        let (log, items) = read_log(alloc, device, &manifest)?;
+        let filters = root_filters(alloc, device, &manifest)?;
+        Ok(Store::of(alloc, manifest, log, &items, filters)?)
     }
 
     /// A store of what was read. Its filters have a place for each extent.
     fn of(
         alloc: Global,
-        geometry: Geometry,
         manifest: Manifest,
         log: Log,
         items: &[Item],
         filters: Vec<Option<FilterPage>>,
     ) -> Result<Store, NoMemory>
-        requires geometry { manifest.geometry ≡ geometry }
         requires log { log ≡ log_at manifest log.slots }
-        requires slots { log.slots ≤ geometry.slots }
+        requires slots { log.slots ≤ manifest.geometry.slots }
         requires enough { log.slots ≤ length items.now }
         requires valid { IsTrue (list_all is_valid items.now) }
         requires fits { IsTrue (log_fits manifest.manifest.header.writes items.now) }
         requires filters { vec_len filters ≡ manifest.manifest.header.extents }
-        ensures { IfOk result (λ store. Assembles manifest log items.now filters.items (view_of store)) }
+        ensures { IfOk result
+            (λ store. Assembles manifest log items.now filters.items (view_of store)) }
     {
         let extents = taken_extents(alloc, &manifest)?;
         let memory = memory_of(alloc, items)?;
         let page = Page::new(alloc)?;
         let writes = manifest.header().writes + items.len() as u64;
         Ok(Store {
-            geometry,
             log,
             manifest,
             memory,
@@ -114,54 +119,55 @@ impl Store {
     }
 }
 
-/// Reads the geometry and the manifest.
+/// Reads the manifest, and the geometry with it.
 fn read_manifest<D: Device>(
     alloc: Global,
     device: &mut D,
-) -> Result<(Geometry, Manifest), OpenFault>
-    ensures geometry { IfOk result (λ read. read.1.geometry ≡ read.0) }
-    ensures valid { IfOk result (λ read. IsTrue (is_geometry read.0)) }
-    ensures stands { IfOk result (λ read. IsManifest read.0 (D.blocks device.old) read.1.manifest) }
-    ensures read { IfOk result (λ read. ForSome (D.state device.old).shown (λ image. manifest_of image ≡ Ok read.1)) }
-    ensures damaged { (b : ℕ) → IsErrOf result (OpenFault.Damaged b) → ForSome (D.state device.old).shown (λ image. manifest_of image ≡ Err b) }
+) -> Result<Manifest, OpenFault>
+    ensures valid { IfOk result (λ manifest. IsTrue (is_geometry manifest.geometry)) }
+    ensures stands { IfOk result
+        (λ manifest. IsManifest manifest.geometry (D.blocks device.old) manifest.manifest) }
+    ensures read { IfOk result
+        (λ manifest. ForSome (D.state device.old).shown (λ image. manifest_of image ≡ Ok manifest))
+        }
+    ensures damaged { (b : ℕ) → IsErrOf result (OpenFault.Damaged b)
+        → ForSome (D.state device.old).shown (λ image. manifest_of image ≡ Err b) }
     ensures damaged_block { (b : ℕ) → IsErrOf result (OpenFault.Damaged b) → b < 868 }
-    ensures cause { IsErrOf result OpenFault.Device → Rose (D.faults device.old) (D.faults device.new) }
-    ensures later { D.faults device.old ≤ D.faults device.new }
-    ensures state { D.state device.new ≡ D.state device.old }
-    ensures size { D.blocks device.new ≡ D.blocks device.old }
-    ensures count { CountsAtMost 307 (D.reads device.old) (D.reads device.new) }
+    ensures calls { OnlyReads D.Device 307 (IsErrOf result OpenFault.Device) device.old device.new }
 {
     let geometry = read_geometry(alloc, device)?;
     let manifest = Manifest::open(alloc, device, &geometry)?;
-    Ok((geometry, manifest))
+    Ok(manifest)
 }
 
 /// Reads the log that the manifest names: the log, and the items of its groups.
 fn read_log<D: Device>(
     alloc: Global,
     device: &mut D,
-    geometry: &Geometry,
     manifest: &Manifest,
 ) -> Result<(Log, Vec<Item>), OpenFault>
-    requires geometry { manifest.now.geometry ≡ geometry.now }
-    requires room { blocks_needed geometry.now manifest.now.manifest.header.extents ≤ D.blocks device.old }
+    requires room { blocks_needed manifest.now.geometry manifest.now.manifest.header.extents
+        ≤ D.blocks device.old }
     ensures log { IfOk result (λ read. read.0 ≡ log_at manifest.now read.0.slots) }
-    ensures slots { IfOk result (λ read. read.0.slots ≤ geometry.now.slots) }
+    ensures slots { IfOk result (λ read. read.0.slots ≤ manifest.now.geometry.slots) }
     ensures enough { IfOk result (λ read. read.0.slots ≤ length read.1.items) }
     ensures valid { IfOk result (λ read. IsTrue (list_all is_valid read.1.items)) }
-    ensures fits { IfOk result (λ read. IsTrue (log_fits manifest.now.manifest.header.writes read.1.items)) }
-    ensures read { IfOk result (λ read. ForSome (D.state device.old).shown (HasItems geometry.now manifest.now.manifest.header.log_area manifest.now.manifest.header.writes read.0.slots read.1.items)) }
-    ensures damaged { (b : ℕ) → IsErrOf result (OpenFault.Damaged b) → ForSome (D.state device.old).shown (λ image.
-        log_groups geometry.now image manifest.now.manifest.header.log_area manifest.now.manifest.header.writes ≡ Err b) }
+    ensures fits { IfOk result
+        (λ read. IsTrue (log_fits manifest.now.manifest.header.writes read.1.items)) }
+    ensures read { IfOk result
+        (λ read. ForSome (D.state device.old).shown
+        (HasItems manifest.now.geometry manifest.now.manifest.header.log_area
+        manifest.now.manifest.header.writes read.0.slots read.1.items)) }
+    ensures damaged { (b : ℕ) → IsErrOf result (OpenFault.Damaged b)
+        → ForSome (D.state device.old).shown (λ image.
+        log_groups manifest.now.geometry image manifest.now.manifest.header.log_area
+        manifest.now.manifest.header.writes ≡ Err b) }
     ensures damaged_block { (b : ℕ) → IsErrOf result (OpenFault.Damaged b) → IsBelowExtents b }
-    ensures cause { IsErrOf result OpenFault.Device → Rose (D.faults device.old) (D.faults device.new) }
-    ensures later { D.faults device.old ≤ D.faults device.new }
-    ensures state { D.state device.new ≡ D.state device.old }
-    ensures size { D.blocks device.new ≡ D.blocks device.old }
-    ensures count { CountsAtMost (2 * geometry.now.slots) (D.reads device.old) (D.reads device.new) }
+    ensures calls { OnlyReads D.Device (2 * manifest.now.geometry.slots)
+        (IsErrOf result OpenFault.Device) device.old device.new }
 {
     let header = manifest.header();
-    Log::open(alloc, device, geometry, header.log_area, header.writes)
+    Log::open(alloc, device, manifest.geometry(), header.log_area, header.writes)
 }
 
 /// Reads the filters of the root's tables: for each extent of the store those of its table, if it has
@@ -169,23 +175,21 @@ fn read_log<D: Device>(
 fn root_filters<D: Device>(
     alloc: Global,
     device: &mut D,
-    geometry: &Geometry,
     manifest: &Manifest,
 ) -> Result<Vec<Option<FilterPage>>, OpenFault>
-    requires geometry { manifest.now.geometry ≡ geometry.now }
-    requires room { blocks_needed geometry.now manifest.now.manifest.header.extents ≤ D.blocks device.old }
+    requires room { blocks_needed manifest.now.geometry manifest.now.manifest.header.extents
+        ≤ D.blocks device.old }
     ensures len { IfOk result (λ filters. vec_len filters ≡ manifest.now.manifest.header.extents) }
-    ensures filters { IfOk result (λ filters. ForSome (D.state device.old).shown (KeepsFilters geometry.now filters.items (root_pile manifest.now.manifest.trie))) }
+    ensures filters { IfOk result
+        (λ filters. ForSome (D.state device.old).shown
+        (KeepsFilters manifest.now.geometry filters.items (root_pile manifest.now.manifest.trie))) }
     ensures fault { (b : ℕ) → IsErrOf result (OpenFault.Damaged b) → ⊥ }
-    ensures cause { IsErrOf result OpenFault.Device → Rose (D.faults device.old) (D.faults device.new) }
-    ensures later { D.faults device.old ≤ D.faults device.new }
-    ensures state { D.state device.new ≡ D.state device.old }
-    ensures size { D.blocks device.new ≡ D.blocks device.old }
-    ensures count { CountsAtMost (length (root_pile manifest.now.manifest.trie)) (D.reads device.old) (D.reads device.new) }
+    ensures calls { OnlyReads D.Device (length (root_pile manifest.now.manifest.trie))
+        (IsErrOf result OpenFault.Device) device.old device.new }
 {
     let mut filters = no_filters(alloc, manifest.header().extents)?;
     for number in manifest.trie().pile(ROOT) {
-        let page = read_page(alloc, device, geometry.extent(*number))?;
+        let page = read_page(alloc, device, manifest.geometry().extent(*number))?;
         filters[*number as usize] = Some(page);
     }
     Ok(filters)
@@ -194,13 +198,11 @@ fn root_filters<D: Device>(
 /// Reads the filters of the table whose extent begins at this block.
 fn read_page<D: Device>(alloc: Global, device: &mut D, first: u64) -> Result<FilterPage, OpenFault>
     requires { first + 65 ≤ D.blocks device.old }
-    ensures filters { IfOk result (λ filters. ForSome (D.state device.old).shown (λ image. filters ≡ block_at image (first + 64))) }
+    ensures filters { IfOk result
+        (λ filters. ForSome (D.state device.old).shown
+        (λ image. filters ≡ block_at image (first + 64))) }
     ensures fault { (b : ℕ) → IsErrOf result (OpenFault.Damaged b) → ⊥ }
-    ensures cause { IsErrOf result OpenFault.Device → Rose (D.faults device.old) (D.faults device.new) }
-    ensures later { D.faults device.old ≤ D.faults device.new }
-    ensures state { D.state device.new ≡ D.state device.old }
-    ensures size { D.blocks device.new ≡ D.blocks device.old }
-    ensures count { CountsOne (D.reads device.old) (D.reads device.new) }
+    ensures calls { OnlyReads D.Device 1 (IsErrOf result OpenFault.Device) device.old device.new }
 {
     match read_filters(alloc, device, first) {
         Ok(filters) => Ok(filters),
@@ -223,7 +225,8 @@ fn no_filters(alloc: Global, extents: u32) -> Result<Vec<Option<FilterPage>>, No
 
 /// The extents of a manifest, of which those are taken that it names.
 fn taken_extents(alloc: Global, manifest: &Manifest) -> Result<Extents, NoMemory>
-    ensures { IfOk result (AreTaken manifest.now.manifest.header.extents (named manifest.now.manifest.trie)) }
+    ensures { IfOk result
+        (AreTaken manifest.now.manifest.header.extents (named manifest.now.manifest.trie)) }
 {
     let used = manifest.trie().referenced(alloc)?;
     Extents::of(alloc, manifest.header().extents, &used)

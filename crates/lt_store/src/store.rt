@@ -7,7 +7,6 @@ ghost use Rattle.lt_store.specs.Kept.{IsKept};
 
 use lt_alloc::{Extents, Short};
 use lt_bloom::FilterPage;
-use lt_format::Geometry;
 use lt_manifest::Manifest;
 use lt_mem::MemTable;
 use lt_page::Page;
@@ -17,7 +16,6 @@ use lt_redo::Log;
 /// table; those of the open group are not durable yet.
 #[derive(Drop)]
 pub struct Store {
-    pub(super) geometry: Geometry,
     pub(super) log: Log,
     pub(super) manifest: Manifest,
     pub(super) memory: MemTable,
@@ -30,7 +28,6 @@ pub struct Store {
     /// What was short where a flush of the memory table as it stands was refused.
     pub(super) refused: Option<Short>,
     pub(super) is_up: bool,
-    ghost geometry_is: { geometry ≡ manifest.geometry },
     ghost kept: { is_up ≡ true → IsKept manifest log memory extents (vec_len filters) writes },
     ghost refused_is: { is_up ≡ true → (short : Short) → refused ≡ Some short → IsShort memory extents short },
 }

@@ -1,10 +1,14 @@
 //! Puts and deletes.
 
-ghost use Rattle.std.specs.Prelude.{◌≡◌, ◌↔◌, ℕ, ◌+◌, ◌*◌, ◌<◌, ◌≤◌, ◌≢◌, true, false, List, [], Ok, Some, None, IfOk, IsErrOf, IsOk, IsTrue, OnErr, OnOk, length};
+ghost use Rattle.std.specs.Prelude.{IsErr};
+ghost use Rattle.std.specs.Prelude.{◌≡◌, ◌↔◌, ℕ, ◌+◌, ◌*◌, ◌<◌, ◌≤◌, ◌≢◌, true, false, List, []};
+ghost use Rattle.std.specs.Prelude.{Ok, Some, None, IfOk, IsErrOf, IsOk, IsTrue, OnErr, OnOk};
+ghost use Rattle.std.specs.Prelude.{length};
 ghost use Rattle.lt_terms.specs.Bytes.{Image};
 ghost use Rattle.lt_terms.specs.Causes.{HasCause, Rose};
 ghost use Rattle.lt_terms.specs.Items.{is_key, is_valid, item_cost, total_cost, put_of, delete_of};
 ghost use Rattle.lt_alloc.specs.declared.extents.Short.{Short};
+ghost use Rattle.lt_device.specs.Calls.{OnlyWrites};
 ghost use Rattle.lt_device.specs.Moments.{Leaves, MayLeave};
 ghost use Rattle.lt_item.specs.Views.{item_of};
 ghost use Rattle.lt_language.specs.Machine.{State, most_writes};
@@ -17,8 +21,9 @@ ghost use Rattle.lt_store.specs.Promise.{IsRooted};
 ghost use Rattle.lt_image.specs.Counts.{IsFullImage};
 ghost use Rattle.lt_store.specs.Taking.{accepted_by, is_due, readied, IsFull};
 ghost use Rattle.lt_store.specs.View.{view_of};
+ghost use Rattle.lt_store.specs.Writing.{WhileRooted, Writes};
 
-use crate::faults::WriteFault;
+use crate::faults::{FlushFault, WriteFault};
 use crate::store::Store;
 use lt_alloc::Short;
 use lt_device::Device;
@@ -58,40 +63,26 @@ impl Store {
         requires up { self.old.is_up ≡ true }
         requires valid { IsTrue (is_valid (put_of key.now value.now)) }
         requires within { blocks_of (view_of self.old) ≤ D.blocks device.old }
-        ensures taken { IfOk result (λ taken. (durable : State) → IsOpen (view_of self.old) durable (D.state device.old)
-            → Goes (view_of self.old) (accepted_by (put_of key.now value.now) taken) (view_of self.new) durable (D.state device.old) (D.state device.new)) }
-        ensures refused { IsErrOf result WriteFault.NoMemory → (durable : State) → IsOpen (view_of self.old) durable (D.state device.old)
-            → Goes (view_of self.old) [] (view_of self.new) durable (D.state device.old) (D.state device.new) }
-        ensures whole { (durable : State) → IsOpen (view_of self.old) durable (D.state device.old)
-            → Leaves (StandsForEither durable (state_of (view_of self.old) durable)) (D.state device.old) (D.state device.new) }
-        ensures rooted { (durable : State) → IsOpen (view_of self.old) durable (D.state device.old) → Leaves IsRooted (D.state device.old) (D.state device.new) }
+        ensures taken { IfOk result (λ answer. (durable : State)
+            → IsOpen (view_of self.old) durable (D.state device.old)
+            → Goes (view_of self.old) (accepted_by (put_of key.now value.now) answer)
+            (view_of self.new) durable (D.state device.old) (D.state device.new)) }
         ensures limit { (result ≡ Ok Taken.Limit) ↔ ((view_of self.old).writes ≡ most_writes) }
-        ensures full { (needed free : ℕ) → result ≡ Ok (Taken.Full needed free) → IsFull (view_of self.new) needed free }
-        ensures full_images { (needed free : ℕ) → result ≡ Ok (Taken.Full needed free) → (durable : State) → IsOpen (view_of self.old) durable (D.state device.old)
-            → ((left : Image) → MayLeave (D.state device.new) left → IsFullImage left needed free) × ((view_of self.old).named.manifest.header.extents < 2 * (view_of self.old).writes) }
+        ensures full { (needed free : ℕ) → result ≡ Ok (Taken.Full needed free)
+            → IsFull (view_of self.new) needed free }
 
-        // Before anything else.
-        ensures unchanged { result ≡ Ok Taken.Limit → (view_of self.new ≡ view_of self.old) × (device.new ≡ device.old) }
+        // Whatever it answers, the open group is there as a whole, or not at all.
+        ensures whole { (durable : State) → IsOpen (view_of self.old) durable (D.state device.old)
+            → Leaves (StandsForEither durable (state_of (view_of self.old) durable))
+            (D.state device.old) (D.state device.new) }
+        ensures writes { Writes D.Device (put_of key.now value.now) (view_of self.old)
+            (view_of self.new)
+            (λ answer. result ≡ Ok answer) (λ fault. IsErrOf result fault) device.old device.new }
+        ensures while_rooted { WhileRooted D.Device (Some (put_of key.now value.now))
+            (view_of self.old) (view_of self.new)
+            (λ answer. result ≡ Ok answer) (λ fault. IsErrOf result fault) device.old device.new }
 
-        // The open group is committed where there is no room, and a flush comes exactly where one is due then.
-        ensures not_due { is_due (readied (view_of self.old) (item_cost (put_of key.now value.now))) ≡ false → result ≡ Ok Taken.Ok → view_of self.new ≡ appended (readied (view_of self.old) (item_cost (put_of key.now value.now))) (put_of key.now value.now) }
-        ensures flushed { is_due (readied (view_of self.old) (item_cost (put_of key.now value.now))) ≡ true → result ≡ Ok Taken.Ok → (durable : State) → IsOpen (view_of self.old) durable (D.state device.old)
-            → (flushed : StoreView) × IsFlushed (readied (view_of self.old) (item_cost (put_of key.now value.now))) flushed (D.state device.new) × (view_of self.new ≡ appended flushed (put_of key.now value.now)) }
-        ensures full_same { (needed free : ℕ) → result ≡ Ok (Taken.Full needed free) → view_of self.new ≡ (readied (view_of self.old) (item_cost (put_of key.now value.now))) }
-        ensures full_quiet { (needed free : ℕ) → result ≡ Ok (Taken.Full needed free) → (view_of self.old).log.pending ≡ [] → device.new ≡ device.old }
-        ensures memory { IsErrOf result WriteFault.NoMemory → is_due (readied (view_of self.old) (item_cost (put_of key.now value.now))) ≡ true }
-
-        ensures at_once { is_due (view_of self.old) ≡ false → total_cost (view_of self.old).memory ≤ 200000 → total_cost (view_of self.old).log.pending + item_cost (put_of key.now value.now) ≤ group_room → (view_of self.old).writes ≢ most_writes
-            → (result ≡ Ok Taken.Ok) × (device.new ≡ device.old) }
-        ensures number { IfOk result (λ taken. (view_of self.new).writes ≡ (view_of self.old).writes + length (accepted_by (put_of key.now value.now) taken)) }
-        ensures same_number { IsErrOf result WriteFault.NoMemory → (view_of self.new).writes ≡ (view_of self.old).writes }
-        ensures undamaged { (b : ℕ) → IsErrOf result (WriteFault.Damaged b) → ⊥ }
         ensures up { (self.new.is_up ≡ false) ↔ IsErrOf result WriteFault.Device }
-        ensures regions { self.new.is_up ≡ true → SameRegions (view_of self.old) (view_of self.new) }
-        ensures size { D.blocks device.new ≡ D.blocks device.old }
-        ensures count { D.reads device.new ≡ D.reads device.old }
-        ensures later { D.faults device.old ≤ D.faults device.new }
-        ensures cause { IsErrOf result WriteFault.Device → Rose (D.faults device.old) (D.faults device.new) }
     {
         let item = ItemView {
             kind: Kind::Put,
@@ -109,42 +100,27 @@ impl Store {
         key: &[u8],
     ) -> Result<Taken, WriteFault>
         requires up { self.old.is_up ≡ true }
-        requires valid { IsTrue (is_key key.now) }
+        requires valid { IsTrue (is_valid (delete_of key.now)) }
         requires within { blocks_of (view_of self.old) ≤ D.blocks device.old }
-        ensures taken { IfOk result (λ taken. (durable : State) → IsOpen (view_of self.old) durable (D.state device.old)
-            → Goes (view_of self.old) (accepted_by (delete_of key.now) taken) (view_of self.new) durable (D.state device.old) (D.state device.new)) }
-        ensures refused { IsErrOf result WriteFault.NoMemory → (durable : State) → IsOpen (view_of self.old) durable (D.state device.old)
-            → Goes (view_of self.old) [] (view_of self.new) durable (D.state device.old) (D.state device.new) }
-        ensures whole { (durable : State) → IsOpen (view_of self.old) durable (D.state device.old)
-            → Leaves (StandsForEither durable (state_of (view_of self.old) durable)) (D.state device.old) (D.state device.new) }
-        ensures rooted { (durable : State) → IsOpen (view_of self.old) durable (D.state device.old) → Leaves IsRooted (D.state device.old) (D.state device.new) }
+        ensures taken { IfOk result (λ answer. (durable : State)
+            → IsOpen (view_of self.old) durable (D.state device.old)
+            → Goes (view_of self.old) (accepted_by (delete_of key.now) answer) (view_of self.new)
+            durable (D.state device.old) (D.state device.new)) }
         ensures limit { (result ≡ Ok Taken.Limit) ↔ ((view_of self.old).writes ≡ most_writes) }
-        ensures full { (needed free : ℕ) → result ≡ Ok (Taken.Full needed free) → IsFull (view_of self.new) needed free }
-        ensures full_images { (needed free : ℕ) → result ≡ Ok (Taken.Full needed free) → (durable : State) → IsOpen (view_of self.old) durable (D.state device.old)
-            → ((left : Image) → MayLeave (D.state device.new) left → IsFullImage left needed free) × ((view_of self.old).named.manifest.header.extents < 2 * (view_of self.old).writes) }
+        ensures full { (needed free : ℕ) → result ≡ Ok (Taken.Full needed free)
+            → IsFull (view_of self.new) needed free }
 
-        // Before anything else.
-        ensures unchanged { result ≡ Ok Taken.Limit → (view_of self.new ≡ view_of self.old) × (device.new ≡ device.old) }
+        // Whatever it answers, the open group is there as a whole, or not at all.
+        ensures whole { (durable : State) → IsOpen (view_of self.old) durable (D.state device.old)
+            → Leaves (StandsForEither durable (state_of (view_of self.old) durable))
+            (D.state device.old) (D.state device.new) }
+        ensures writes { Writes D.Device (delete_of key.now) (view_of self.old) (view_of self.new)
+            (λ answer. result ≡ Ok answer) (λ fault. IsErrOf result fault) device.old device.new }
+        ensures while_rooted { WhileRooted D.Device (Some (delete_of key.now)) (view_of self.old)
+            (view_of self.new)
+            (λ answer. result ≡ Ok answer) (λ fault. IsErrOf result fault) device.old device.new }
 
-        // The open group is committed where there is no room, and a flush comes exactly where one is due then.
-        ensures not_due { is_due (readied (view_of self.old) (item_cost (delete_of key.now))) ≡ false → result ≡ Ok Taken.Ok → view_of self.new ≡ appended (readied (view_of self.old) (item_cost (delete_of key.now))) (delete_of key.now) }
-        ensures flushed { is_due (readied (view_of self.old) (item_cost (delete_of key.now))) ≡ true → result ≡ Ok Taken.Ok → (durable : State) → IsOpen (view_of self.old) durable (D.state device.old)
-            → (flushed : StoreView) × IsFlushed (readied (view_of self.old) (item_cost (delete_of key.now))) flushed (D.state device.new) × (view_of self.new ≡ appended flushed (delete_of key.now)) }
-        ensures full_same { (needed free : ℕ) → result ≡ Ok (Taken.Full needed free) → view_of self.new ≡ (readied (view_of self.old) (item_cost (delete_of key.now))) }
-        ensures full_quiet { (needed free : ℕ) → result ≡ Ok (Taken.Full needed free) → (view_of self.old).log.pending ≡ [] → device.new ≡ device.old }
-        ensures memory { IsErrOf result WriteFault.NoMemory → is_due (readied (view_of self.old) (item_cost (delete_of key.now))) ≡ true }
-
-        ensures at_once { is_due (view_of self.old) ≡ false → total_cost (view_of self.old).memory ≤ 200000 → total_cost (view_of self.old).log.pending + item_cost (delete_of key.now) ≤ group_room → (view_of self.old).writes ≢ most_writes
-            → (result ≡ Ok Taken.Ok) × (device.new ≡ device.old) }
-        ensures number { IfOk result (λ taken. (view_of self.new).writes ≡ (view_of self.old).writes + length (accepted_by (delete_of key.now) taken)) }
-        ensures same_number { IsErrOf result WriteFault.NoMemory → (view_of self.new).writes ≡ (view_of self.old).writes }
-        ensures undamaged { (b : ℕ) → IsErrOf result (WriteFault.Damaged b) → ⊥ }
         ensures up { (self.new.is_up ≡ false) ↔ IsErrOf result WriteFault.Device }
-        ensures regions { self.new.is_up ≡ true → SameRegions (view_of self.old) (view_of self.new) }
-        ensures size { D.blocks device.new ≡ D.blocks device.old }
-        ensures count { D.reads device.new ≡ D.reads device.old }
-        ensures later { D.faults device.old ≤ D.faults device.new }
-        ensures cause { IsErrOf result WriteFault.Device → Rose (D.faults device.old) (D.faults device.new) }
     {
         let item = ItemView {
             kind: Kind::Delete,
@@ -163,40 +139,25 @@ impl Store {
         requires up { self.old.is_up ≡ true }
         requires valid { IsTrue (is_valid (item_of item.now)) }
         requires within { blocks_of (view_of self.old) ≤ D.blocks device.old }
-        ensures taken { IfOk result (λ taken. (durable : State) → IsOpen (view_of self.old) durable (D.state device.old)
-            → Goes (view_of self.old) (accepted_by (item_of item.now) taken) (view_of self.new) durable (D.state device.old) (D.state device.new)) }
-        ensures refused { IsErrOf result WriteFault.NoMemory → (durable : State) → IsOpen (view_of self.old) durable (D.state device.old)
-            → Goes (view_of self.old) [] (view_of self.new) durable (D.state device.old) (D.state device.new) }
-        ensures whole { (durable : State) → IsOpen (view_of self.old) durable (D.state device.old)
-            → Leaves (StandsForEither durable (state_of (view_of self.old) durable)) (D.state device.old) (D.state device.new) }
-        ensures rooted { (durable : State) → IsOpen (view_of self.old) durable (D.state device.old) → Leaves IsRooted (D.state device.old) (D.state device.new) }
+        ensures taken { IfOk result (λ answer. (durable : State)
+            → IsOpen (view_of self.old) durable (D.state device.old)
+            → Goes (view_of self.old) (accepted_by (item_of item.now) answer) (view_of self.new)
+            durable (D.state device.old) (D.state device.new)) }
         ensures limit { (result ≡ Ok Taken.Limit) ↔ ((view_of self.old).writes ≡ most_writes) }
-        ensures full { (needed free : ℕ) → result ≡ Ok (Taken.Full needed free) → IsFull (view_of self.new) needed free }
-        ensures full_images { (needed free : ℕ) → result ≡ Ok (Taken.Full needed free) → (durable : State) → IsOpen (view_of self.old) durable (D.state device.old)
-            → ((left : Image) → MayLeave (D.state device.new) left → IsFullImage left needed free) × ((view_of self.old).named.manifest.header.extents < 2 * (view_of self.old).writes) }
+        ensures full { (needed free : ℕ) → result ≡ Ok (Taken.Full needed free)
+            → IsFull (view_of self.new) needed free }
 
-        // Before anything else.
-        ensures unchanged { result ≡ Ok Taken.Limit → (view_of self.new ≡ view_of self.old) × (device.new ≡ device.old) }
+        // Whatever it answers, the open group is there as a whole, or not at all.
+        ensures whole { (durable : State) → IsOpen (view_of self.old) durable (D.state device.old)
+            → Leaves (StandsForEither durable (state_of (view_of self.old) durable))
+            (D.state device.old) (D.state device.new) }
+        ensures writes { Writes D.Device (item_of item.now) (view_of self.old) (view_of self.new)
+            (λ answer. result ≡ Ok answer) (λ fault. IsErrOf result fault) device.old device.new }
+        ensures while_rooted { WhileRooted D.Device (Some (item_of item.now)) (view_of self.old)
+            (view_of self.new)
+            (λ answer. result ≡ Ok answer) (λ fault. IsErrOf result fault) device.old device.new }
 
-        // The open group is committed where there is no room, and a flush comes exactly where one is due then.
-        ensures not_due { is_due (readied (view_of self.old) (item_cost (item_of item.now))) ≡ false → result ≡ Ok Taken.Ok → view_of self.new ≡ appended (readied (view_of self.old) (item_cost (item_of item.now))) (item_of item.now) }
-        ensures flushed { is_due (readied (view_of self.old) (item_cost (item_of item.now))) ≡ true → result ≡ Ok Taken.Ok → (durable : State) → IsOpen (view_of self.old) durable (D.state device.old)
-            → (flushed : StoreView) × IsFlushed (readied (view_of self.old) (item_cost (item_of item.now))) flushed (D.state device.new) × (view_of self.new ≡ appended flushed (item_of item.now)) }
-        ensures full_same { (needed free : ℕ) → result ≡ Ok (Taken.Full needed free) → view_of self.new ≡ (readied (view_of self.old) (item_cost (item_of item.now))) }
-        ensures full_quiet { (needed free : ℕ) → result ≡ Ok (Taken.Full needed free) → (view_of self.old).log.pending ≡ [] → device.new ≡ device.old }
-        ensures memory { IsErrOf result WriteFault.NoMemory → is_due (readied (view_of self.old) (item_cost (item_of item.now))) ≡ true }
-
-        ensures at_once { is_due (view_of self.old) ≡ false → total_cost (view_of self.old).memory ≤ 200000 → total_cost (view_of self.old).log.pending + item_cost (item_of item.now) ≤ group_room → (view_of self.old).writes ≢ most_writes
-            → (result ≡ Ok Taken.Ok) × (device.new ≡ device.old) }
-        ensures number { IfOk result (λ taken. (view_of self.new).writes ≡ (view_of self.old).writes + length (accepted_by (item_of item.now) taken)) }
-        ensures same_number { IsErrOf result WriteFault.NoMemory → (view_of self.new).writes ≡ (view_of self.old).writes }
-        ensures undamaged { (b : ℕ) → IsErrOf result (WriteFault.Damaged b) → ⊥ }
         ensures up { (self.new.is_up ≡ false) ↔ IsErrOf result WriteFault.Device }
-        ensures regions { self.new.is_up ≡ true → SameRegions (view_of self.old) (view_of self.new) }
-        ensures size { D.blocks device.new ≡ D.blocks device.old }
-        ensures count { D.reads device.new ≡ D.reads device.old }
-        ensures later { D.faults device.old ≤ D.faults device.new }
-        ensures cause { IsErrOf result WriteFault.Device → Rose (D.faults device.old) (D.faults device.new) }
     {
         if self.writes == u64::MAX {
             return Ok(Taken::Limit);
@@ -217,23 +178,28 @@ impl Store {
         requires up { self.old.is_up ≡ true }
         requires within { blocks_of (view_of self.old) ≤ D.blocks device.old }
         requires cost { cost ≤ group_room }
-        ensures rest { OnOk result (view_of self.new ≡ record (view_of self.old) { log = (view_of self.new).log }) }
+        ensures rest { OnOk result
+            (view_of self.new ≡ record (view_of self.old) { log = (view_of self.new).log }) }
         ensures room { OnOk result (total_cost self.new.log.pending + cost ≤ group_room) }
-        ensures small { OnOk result (0 < length self.new.log.pending → total_cost (view_of self.new).memory ≤ 200000) }
-        ensures goes { OnOk result ((durable : State) → IsOpen (view_of self.old) durable (D.state device.old)
-            → Goes (view_of self.old) [] (view_of self.new) durable (D.state device.old) (D.state device.new)) }
+        ensures small { OnOk result (0 < length self.new.log.pending
+            → total_cost (view_of self.new).memory ≤ 200000) }
+        ensures goes { OnOk result ((durable : State)
+            → IsOpen (view_of self.old) durable (D.state device.old)
+            → Goes (view_of self.old) [] (view_of self.new) durable (D.state device.old)
+            (D.state device.new)) }
         ensures whole { (durable : State) → IsOpen (view_of self.old) durable (D.state device.old)
-            → Leaves (StandsForEither durable (state_of (view_of self.old) durable)) (D.state device.old) (D.state device.new) }
-        ensures rooted { (durable : State) → IsOpen (view_of self.old) durable (D.state device.old) → Leaves IsRooted (D.state device.old) (D.state device.new) }
+            → Leaves (StandsForEither durable (state_of (view_of self.old) durable))
+            (D.state device.old) (D.state device.new) }
+        ensures rooted { (durable : State) → IsOpen (view_of self.old) durable (D.state device.old)
+            → Leaves IsRooted (D.state device.old) (D.state device.new) }
         ensures ready { OnOk result (view_of self.new ≡ readied (view_of self.old) cost) }
         ensures idle { self.old.log.pending ≡ [] → device.new ≡ device.old }
-        ensures at_once { total_cost (view_of self.old).memory ≤ 200000 → total_cost self.old.log.pending + cost ≤ group_room
+        ensures at_once { total_cost (view_of self.old).memory ≤ 200000
+            → total_cost self.old.log.pending + cost ≤ group_room
             → IsOk result × (view_of self.new ≡ view_of self.old) × (device.new ≡ device.old) }
         ensures up { OnOk result (self.new.is_up ≡ true) }
         ensures err { OnErr result (self.new.is_up ≡ false) }
-        ensures size { D.blocks device.new ≡ D.blocks device.old }
-        ensures count { D.reads device.new ≡ D.reads device.old }
-        ensures cause { HasCause (D.faults device.old) (D.faults device.new) result }
+        ensures calls { OnlyWrites D.Device (IsErr result) device.old device.new }
     {
         if self.log.room() >= cost && self.memory.bytes() <= FLUSH_BYTES {
             return Ok(());
@@ -246,32 +212,42 @@ impl Store {
         &mut self,
         alloc: Global,
         device: &mut D,
-    ) -> Result<Option<Short>, WriteFault>
+    ) -> Result<Option<Short>, FlushFault>
         requires up { self.old.is_up ≡ true }
         requires within { blocks_of (view_of self.old) ≤ D.blocks device.old }
-        requires small { 0 < length self.old.log.pending → total_cost (view_of self.old).memory ≤ 200000 }
-        ensures stays { (durable : State) → IsOpen (view_of self.old) durable (D.state device.old) → Stays durable (D.state device.old) (D.state device.new) }
-        ensures rooted { (durable : State) → IsOpen (view_of self.old) durable (D.state device.old) → Leaves IsRooted (D.state device.old) (D.state device.new) }
-        ensures opened { IsOk result → (durable : State) → IsOpen (view_of self.old) durable (D.state device.old) → IsOpen (view_of self.new) durable (D.state device.new) }
-        ensures opened_again { IsErrOf result WriteFault.NoMemory → (durable : State) → IsOpen (view_of self.old) durable (D.state device.old) → IsOpen (view_of self.new) durable (D.state device.new) }
-        ensures not_due { is_due (view_of self.old) ≡ false → (result ≡ Ok None) × (view_of self.new ≡ view_of self.old) × (device.new ≡ device.old) }
-        ensures flushed { is_due (view_of self.old) ≡ true → result ≡ Ok None → (durable : State) → IsOpen (view_of self.old) durable (D.state device.old) → IsFlushed (view_of self.old) (view_of self.new) (D.state device.new) }
-        ensures short { (short : Short) → result ≡ Ok (Some short) → (view_of self.new ≡ view_of self.old) × (device.new ≡ device.old) }
-        ensures pending { IsOk result → self.new.log.pending ≡ self.old.log.pending }
-        ensures pending_again { IsErrOf result WriteFault.NoMemory → self.new.log.pending ≡ self.old.log.pending }
+        requires small { 0 < length self.old.log.pending
+            → total_cost (view_of self.old).memory ≤ 200000 }
+        ensures stays { (durable : State) → IsOpen (view_of self.old) durable (D.state device.old)
+            → Stays durable (D.state device.old) (D.state device.new) }
+        ensures rooted { (durable : State) → IsOpen (view_of self.old) durable (D.state device.old)
+            → Leaves IsRooted (D.state device.old) (D.state device.new) }
+        ensures opened { self.new.is_up ≡ true → (durable : State)
+            → IsOpen (view_of self.old) durable (D.state device.old)
+            → IsOpen (view_of self.new) durable (D.state device.new) }
+        ensures not_due { is_due (view_of self.old) ≡ false → (result ≡ Ok None)
+            × (view_of self.new ≡ view_of self.old) × (device.new ≡ device.old) }
+        ensures flushed { is_due (view_of self.old) ≡ true → result ≡ Ok None → (durable : State)
+            → IsOpen (view_of self.old) durable (D.state device.old)
+            → IsFlushed (view_of self.old) (view_of self.new) (D.state device.new) }
+        ensures short { (short : Short) → result ≡ Ok (Some short)
+            → (view_of self.new ≡ view_of self.old) × (device.new ≡ device.old) }
+        ensures pending { self.new.is_up ≡ true → self.new.log.pending ≡ self.old.log.pending }
         ensures small { result ≡ Ok None → total_cost (view_of self.new).memory ≤ 200000 }
-        ensures slot { result ≡ Ok None → self.new.log.slots < (view_of self.new).named.geometry.slots }
-        ensures full { (short : Short) → result ≡ Ok (Some short) → IsFull (view_of self.new) short.needed short.free }
-        ensures full_images { (short : Short) → result ≡ Ok (Some short) → (durable : State) → IsOpen (view_of self.old) durable (D.state device.old)
-            → ((left : Image) → MayLeave (D.state device.new) left → IsFullImage left short.needed short.free) × ((view_of self.old).named.manifest.header.extents < 2 * (view_of self.old).writes) }
-        ensures up { (self.new.is_up ≡ false) ↔ IsErrOf result WriteFault.Device }
+        ensures slot { result ≡ Ok None
+            → self.new.log.slots < (view_of self.new).named.geometry.slots }
+        ensures full { (short : Short) → result ≡ Ok (Some short)
+            → IsFull (view_of self.new) short.needed short.free }
+        ensures full_images { (short : Short) → result ≡ Ok (Some short) → (durable : State)
+            → IsOpen (view_of self.old) durable (D.state device.old)
+            → ((left : Image) → MayLeave (D.state device.new) left
+            → IsFullImage left short.needed short.free)
+            × ((view_of self.old).named.manifest.header.extents < 2 * (view_of self.old).writes) }
+        ensures up { (self.new.is_up ≡ false) ↔ IsErrOf result FlushFault.Device }
         ensures writes { self.new.writes ≡ self.old.writes }
-        ensures undamaged { (b : ℕ) → IsErrOf result (WriteFault.Damaged b) → ⊥ }
-        ensures regions { self.new.is_up ≡ true → SameRegions (view_of self.old) (view_of self.new) }
-        ensures size { D.blocks device.new ≡ D.blocks device.old }
-        ensures count { D.reads device.new ≡ D.reads device.old }
-        ensures later { D.faults device.old ≤ D.faults device.new }
-        ensures cause { IsErrOf result WriteFault.Device → Rose (D.faults device.old) (D.faults device.new) }
+        ensures regions { self.new.is_up ≡ true
+            → SameRegions (view_of self.old) (view_of self.new) }
+        ensures calls { OnlyWrites D.Device (IsErrOf result FlushFault.Device)
+            device.old device.new }
     {
         let has_slot = self.log.slots_left() > 0;
         if self.log.pending() > 0 || has_slot && self.memory.bytes() <= FLUSH_BYTES {
@@ -284,7 +260,8 @@ impl Store {
     fn append(&mut self, item: &ItemView<'_>)
         requires up { self.old.is_up ≡ true }
         requires valid { IsTrue (is_valid (item_of item.now)) }
-        requires room { total_cost self.old.log.pending + item_cost (item_of item.now) ≤ group_room }
+        requires room { total_cost self.old.log.pending + item_cost (item_of item.now) ≤ group_room
+            }
         requires small { total_cost (view_of self.old).memory ≤ 200000 }
         requires slot { self.old.log.slots < (view_of self.old).named.geometry.slots }
         requires number { (view_of self.old).writes ≢ most_writes }

@@ -8,9 +8,7 @@ use Rattle.lt_node.proofs.MarkLaws.{below_at}
 pub loop-turn-init : goal.loop-turn-init
 loop-turn-init g c = record {
   built = AreBuilt-none c.args.geometry.now c.args.filters.now (g.D.Device.state c.args.device.now) c.args.numbers.now (map (λ table. table.now) c.args.tables.now) (confined_begins _);
-  size = refl;
-  count = refl;
-  faults = omega arith;
+  calls = record { size = refl; count = refl; later = omega arith; cause = λ none. absurd none };
 }
 
 pub loop-turn-preserved : goal.loop-turn-preserved
@@ -25,9 +23,12 @@ loop-turn-preserved g c =
           (record { confined = c.build.ensures.confined; shows = c.build.ensures.others })
           (record { placed = c.in_ok-built.ensures.placed; filters = c.in_ok-built.ensures.filters })
           refl;
-      size = c.build.ensures.size ∙ before.size;
-      count = c.build.ensures.count ∙ before.count;
-      faults = omega (arith, before.faults, c.build.ensures.later);
+      calls = record {
+        size = c.build.ensures.size ∙ before.calls.size;
+        count = c.build.ensures.count ∙ before.calls.count;
+        later = omega (arith, before.calls.later, c.build.ensures.later);
+        cause = λ none. absurd none;
+      };
     }
 
 pub returns-in_err-built-clause-confined : goal.returns-in_err-built-clause-confined

@@ -1,4 +1,4 @@
-use Rattle.std.proofs.Common.{◌≡◌, ℕ, ◌+◌, ◌-◌, ◌*◌, ◌<◌, ◌≤◌, sym, ap, subst, ◌∙◌, Bool, true, false, None, Option, Result, Ok, Err, List, length, get_or, drop, arith}
+use Rattle.std.proofs.Common.{rules, ◌≡◌, ℕ, ◌+◌, ◌-◌, ◌*◌, ◌<◌, ◌≤◌, sym, ap, subst, ◌∙◌, Bool, true, false, None, Option, Result, Ok, Err, List, length, get_or, drop, arith}
 use Rattle.std.specs.Prelude.{count_by}
 use Rattle.std.specs.List.{flat_map}
 use Rattle.std.specs.Option.{is_some}
@@ -20,7 +20,7 @@ returns-in_err-version-clause-seen g c = λ image told.
     let tables : List ℕ = c.args.tables.now in
     let j : ℕ = c.loop-i.i - 1 in
     let fault = err_from_is_err_and c.from_residual.result c.from_residual.ensures.1 in
-    let here = c.in_err-version.ensures.seen image (ap (λ (s : State). s.shown) so_far.state ∙ told) in
+    let here = c.in_err-version.ensures.seen image (ap (λ (s : State). s.shown) so_far.calls.state ∙ told) in
     rw (fault.1, fault.2) (fault-above c.args.geometry.now c.args.filters.now image c.args.key.now tables c.loop-i.i j (omega arith) (omega arith) (so_far.sees image told)
     c.extent-first.result c.extent-first.ensures (sym c.may_hold.ensures ∙ c.if-may_hold.true) c.in_err-version.field-0.0 c.loop-i.out c.look_into.new.out c.args.out.now c.look_into.new.out here)
 
@@ -29,7 +29,7 @@ returns-then-is_some-clause-seen g c = λ image told.
     let so_far = c.loop-i.invariant in
     let tables : List ℕ = c.args.tables.now in
     let j : ℕ = c.loop-i.i - 1 in
-    let here = c.in_ok-version.ensures.seen image (ap (λ (s : State). s.shown) so_far.state ∙ told) in
+    let here = c.in_ok-version.ensures.seen image (ap (λ (s : State). s.shown) so_far.calls.state ∙ told) in
     found-above c.args.geometry.now c.args.filters.now image c.args.key.now tables c.loop-i.i j (omega arith) (omega arith) (so_far.sees image told)
     c.extent-first.result c.extent-first.ensures (sym c.may_hold.ensures ∙ c.if-may_hold.true) c.in_ok-version.version c.loop-i.out c.look_into.new.out c.args.out.now so_far.out (sym c.is_some.ensures ∙ c.if-is_some.true) here
 
@@ -41,7 +41,7 @@ returns-in_err-version-clause-answer g c = λ image told readable.
     let j : ℕ = c.loop-i.i - 1 in
     let below : j < length tables = omega arith in
     let fault = err_from_is_err_and c.from_residual.result c.from_residual.ensures.1 in
-    let answer = c.in_err-version.ensures.answer image (newest (items_at c.args.geometry.now image (get_or tables j 0))) (ap (λ (s : State). s.shown) so_far.state ∙ told)
+    let answer = c.in_err-version.ensures.answer image (newest (items_at c.args.geometry.now image (get_or tables j 0))) (ap (λ (s : State). s.shown) so_far.calls.state ∙ told)
     (placed-at c.args.geometry.now c.args.filters.now image key tables j c.extent-first.result readable below c.extent-first.ensures) in
     rw (fault.1, fault.2) (answer-fault (newest_of key (newest (items_at c.args.geometry.now image (get_or tables j 0)))) (newest_of key (pile_items c.args.geometry.now image tables)) _ c.args.out.now c.look_into.new.out
     (subst (λ (page : List ℕ). IsAnswer (newest_of key (newest (items_at c.args.geometry.now image (get_or tables j 0)))) (Err c.in_err-version.field-0.0) page c.look_into.new.out) so_far.out answer))
@@ -68,7 +68,7 @@ returns-in_err-version-clause-stops g c = λ image j told readable holds.
     let tables : List ℕ = c.args.tables.now in
     let key : List ℕ = c.args.key.now in
     stops_here (items_at c.args.geometry.now image) key p tables c.loop-i.i j _ _ (c.loop-i.invariant.none image told readable) holds.within holds.held
-    (count_here p tables c.loop-i.i _ _ _ c.loop-i-test.true (omega arith) (sym c.may_hold.ensures ∙ c.if-may_hold.true) c.loop-i.invariant.count c.look_into.ensures.count)
+    (count_here p tables c.loop-i.i _ _ _ c.loop-i-test.true (omega arith) (sym c.may_hold.ensures ∙ c.if-may_hold.true) c.loop-i.invariant.calls.count c.look_into.ensures.calls.count)
 
 pub returns-then-is_some-clause-stops : goal.returns-then-is_some-clause-stops
 returns-then-is_some-clause-stops g c = λ image j told readable holds.
@@ -76,7 +76,7 @@ returns-then-is_some-clause-stops g c = λ image j told readable holds.
     let tables : List ℕ = c.args.tables.now in
     let key : List ℕ = c.args.key.now in
     stops_here (items_at c.args.geometry.now image) key p tables c.loop-i.i j _ _ (c.loop-i.invariant.none image told readable) holds.within holds.held
-    (count_here p tables c.loop-i.i _ _ _ c.loop-i-test.true (omega arith) (sym c.may_hold.ensures ∙ c.if-may_hold.true) c.loop-i.invariant.count c.look_into.ensures.count)
+    (count_here p tables c.loop-i.i _ _ _ c.loop-i-test.true (omega arith) (sym c.may_hold.ensures ∙ c.if-may_hold.true) c.loop-i.invariant.calls.count c.look_into.ensures.calls.count)
 
 pub returns-clause-stops : goal.returns-clause-stops
 returns-clause-stops g c = λ image j told readable holds.
@@ -84,12 +84,20 @@ returns-clause-stops g c = λ image j told readable holds.
     let before = held-before (items_at c.args.geometry.now image) key c.args.tables.now c.loop-i.i j (c.loop-i.invariant.none image told readable) holds.within holds.held in
     absurd (omega (arith, before, c.loop-i-test.false))
 
-pub returns-in_err-version-clause-count : goal.returns-in_err-version-clause-count
-returns-in_err-version-clause-count g c =
+pub returns-in_err-version-clause-calls : goal.returns-in_err-version-clause-calls
+returns-in_err-version-clause-calls g c =
     let p = may_hold c.args.filters.now c.args.key.now in
     let tables : List ℕ = c.args.tables.now in
-    counts-fewer _ _ _ _ (count_here p tables c.loop-i.i _ _ _ c.loop-i-test.true (omega arith) (sym c.may_hold.ensures ∙ c.if-may_hold.true) c.loop-i.invariant.count c.look_into.ensures.count)
-    (let part = count-part p tables (c.loop-i.i - 1) in omega (arith, part))
+    let so_far = c.loop-i.invariant.calls in
+    let asked = c.look_into.ensures.calls in
+    record {
+      state = asked.state ∙ so_far.state;
+      size = asked.size ∙ so_far.size;
+      count = counts-fewer _ _ _ _ (count_here p tables c.loop-i.i _ _ _ c.loop-i-test.true (omega arith) (sym c.may_hold.ensures ∙ c.if-may_hold.true) so_far.count asked.count)
+          (let part = count-part p tables (c.loop-i.i - 1) in omega (arith, part));
+      later = omega (arith, so_far.later, asked.later);
+      cause = λ failed. let rose = asked.cause (search rules) in omega (arith, so_far.later, rose);
+    }
 
 pub returns-then-is_some-clause-answer : goal.returns-then-is_some-clause-answer
 returns-then-is_some-clause-answer g c = λ image told readable.
@@ -98,21 +106,29 @@ returns-then-is_some-clause-answer g c = λ image told readable.
     let key : List ℕ = c.args.key.now in
     let j : ℕ = c.loop-i.i - 1 in
     let below : j < length tables = omega arith in
-    let answer = c.in_ok-version.ensures.answer image (newest (items_at c.args.geometry.now image (get_or tables j 0))) (ap (λ (s : State). s.shown) so_far.state ∙ told)
+    let answer = c.in_ok-version.ensures.answer image (newest (items_at c.args.geometry.now image (get_or tables j 0))) (ap (λ (s : State). s.shown) so_far.calls.state ∙ told)
     (placed-at c.args.geometry.now c.args.filters.now image key tables j c.extent-first.result readable below c.extent-first.ensures) in
     pile-found c.args.geometry.now image key tables c.loop-i.i j (omega arith) below (so_far.none image told readable) c.in_ok-version.version c.loop-i.out c.args.out.now c.look_into.new.out so_far.out (sym c.is_some.ensures ∙ c.if-is_some.true) answer
 
-pub returns-then-is_some-clause-count : goal.returns-then-is_some-clause-count
-returns-then-is_some-clause-count g c =
+pub returns-then-is_some-clause-calls : goal.returns-then-is_some-clause-calls
+returns-then-is_some-clause-calls g c =
     let p = may_hold c.args.filters.now c.args.key.now in
     let tables : List ℕ = c.args.tables.now in
-    counts-fewer _ _ _ _ (count_here p tables c.loop-i.i _ _ _ c.loop-i-test.true (omega arith) (sym c.may_hold.ensures ∙ c.if-may_hold.true) c.loop-i.invariant.count c.look_into.ensures.count)
-    (let part = count-part p tables (c.loop-i.i - 1) in omega (arith, part))
+    let so_far = c.loop-i.invariant.calls in
+    let asked = c.look_into.ensures.calls in
+    record {
+      state = asked.state ∙ so_far.state;
+      size = asked.size ∙ so_far.size;
+      count = counts-fewer _ _ _ _ (count_here p tables c.loop-i.i _ _ _ c.loop-i-test.true (omega arith) (sym c.may_hold.ensures ∙ c.if-may_hold.true) so_far.count asked.count)
+          (let part = count-part p tables (c.loop-i.i - 1) in omega (arith, part));
+      later = omega (arith, so_far.later, asked.later);
+      cause = λ failed. absurd (let at = failed in cc);
+    }
 
 pub loop-i-preserved-else-is_some : goal.loop-i-preserved-else-is_some
 loop-i-preserved-else-is_some g c =
     let so_far = c.loop-i.invariant in
-    let asked = c.look_into.ensures in
+    let asked = c.look_into.ensures.calls in
     let p = may_hold c.args.filters.now c.args.key.now in
     let tables : List ℕ = c.args.tables.now in
     let key : List ℕ = c.args.key.now in
@@ -120,18 +136,21 @@ loop-i-preserved-else-is_some g c =
     let below : j < length tables = omega arith in
     record {
       none = λ image told readable.
-          let answer = c.in_ok-version.ensures.answer image (newest (items_at c.args.geometry.now image (get_or tables j 0))) (ap (λ (s : State). s.shown) so_far.state ∙ told)
+          let answer = c.in_ok-version.ensures.answer image (newest (items_at c.args.geometry.now image (get_or tables j 0))) (ap (λ (s : State). s.shown) so_far.calls.state ∙ told)
           (placed-at c.args.geometry.now c.args.filters.now image key tables j c.extent-first.result readable below c.extent-first.ensures) in
           pile-none c.args.geometry.now image key tables c.loop-i.i j (omega arith) below (so_far.none image told readable) c.in_ok-version.version c.loop-i.out c.look_into.new.out (sym c.is_some.ensures ∙ c.if-is_some.false) answer;
       sees = λ image told.
-          let here = c.in_ok-version.ensures.seen image (ap (λ (s : State). s.shown) so_far.state ∙ told) in
+          let here = c.in_ok-version.ensures.seen image (ap (λ (s : State). s.shown) so_far.calls.state ∙ told) in
           none-above c.args.geometry.now c.args.filters.now image key tables c.loop-i.i j (omega arith) below (so_far.sees image told)
           c.extent-first.result c.extent-first.ensures (sym c.may_hold.ensures ∙ c.if-may_hold.true) c.in_ok-version.version c.loop-i.out c.look_into.new.out (sym c.is_some.ensures ∙ c.if-is_some.false) here;
       out = same_page c.in_ok-version.version c.loop-i.out c.look_into.new.out (sym c.is_some.ensures ∙ c.if-is_some.false) c.in_ok-version.ensures.page ∙ so_far.out;
-      state = asked.state ∙ so_far.state;
-      size = asked.size ∙ so_far.size;
-      count = count_here p tables c.loop-i.i _ _ _ c.loop-i-test.true (omega arith) (sym c.may_hold.ensures ∙ c.if-may_hold.true) so_far.count asked.count;
-      faults = omega (arith, so_far.faults, asked.later);
+      calls = record {
+        state = asked.state ∙ so_far.calls.state;
+        size = asked.size ∙ so_far.calls.size;
+        count = count_here p tables c.loop-i.i _ _ _ c.loop-i-test.true (omega arith) (sym c.may_hold.ensures ∙ c.if-may_hold.true) so_far.calls.count asked.count;
+        later = omega (arith, so_far.calls.later, asked.later);
+        cause = λ none. absurd none;
+      };
     }
 
 pub loop-i-preserved : goal.loop-i-preserved
@@ -150,10 +169,13 @@ loop-i-preserved g c =
           ((all_at (IsReadable c.args.geometry.now c.args.filters.now image key) tables j readable below).skipped no);
       sees = λ image told. skipped-seen c.args.geometry.now c.args.filters.now image key tables c.loop-i.i j step below (so_far.sees image told) no;
       out = so_far.out;
-      state = so_far.state;
-      size = so_far.size;
-      count = counts-fewer _ _ _ _ so_far.count (let passed = subst (λ n. count_by p (drop n tables) ≤ count_by p (drop j tables)) step (count-passed p tables j below) in omega (arith, passed));
-      faults = so_far.faults;
+      calls = record {
+        state = so_far.calls.state;
+        size = so_far.calls.size;
+        count = counts-fewer _ _ _ _ so_far.calls.count (let passed = subst (λ n. count_by p (drop n tables) ≤ count_by p (drop j tables)) step (count-passed p tables j below) in omega (arith, passed));
+        later = so_far.calls.later;
+        cause = λ none. absurd none;
+      };
     }
 
 pub returns-clause-seen : goal.returns-clause-seen

@@ -2,7 +2,7 @@ use Rattle.std.proofs.Common.{◌≡◌, ◌*◌, ◌≤◌, None, Some, Ok, dro
 use Rattle.std.specs.Prelude.{count_by}
 use Rattle.std.specs.List.{AllByRecursion}
 use Rattle.lt_terms.specs.Bytes.{Image}
-use Rattle.lt_device.specs.Reads.{CountsAtMost}
+use Rattle.lt_device.specs.Calls.{OnlyReads}
 use Rattle.lt_tables.specs.Merge.{newest_of}
 use Rattle.lt_image.specs.Versions.{pile_items}
 use Rattle.lt_store.specs.Getting.{IsReadable, may_hold, seen}
@@ -15,8 +15,5 @@ invariant-loop-i g l = record {
       → newest_of l.key (pile_items l.geometry image (drop l.i l.tables)) ≡ None;
   sees : (image : Image) → (g.D.Device.state l.fn.device).shown ≡ Some image → seen l.geometry (may_hold l.filters l.key) image l.key (drop l.i l.tables) ≡ Ok None;
   out : l.out ≡ l.fn.out;
-  state : g.D.Device.state l.device ≡ g.D.Device.state l.fn.device;
-  size : g.D.Device.blocks l.device ≡ g.D.Device.blocks l.fn.device;
-  count : CountsAtMost (2 * count_by (may_hold l.filters l.key) (drop l.i l.tables)) (g.D.Device.reads l.fn.device) (g.D.Device.reads l.device);
-  faults : g.D.Device.faults l.fn.device ≤ g.D.Device.faults l.device;
+  calls : OnlyReads g.D.Device (2 * count_by (may_hold l.filters l.key) (drop l.i l.tables)) ⊥ l.fn.device l.device;
 }

@@ -13,7 +13,7 @@ returns-in_err-geometry-clause-damaged g c = λ b is image told.
 pub returns-in_err-manifest-clause-damaged : goal.returns-in_err-manifest-clause-damaged
 returns-in_err-manifest-clause-damaged g c = λ b is image told.
     let fault = err_from_is_err_and c.from_residual-in_err-manifest.result c.from_residual-in_err-manifest.ensures.1 in
-    let here = ap (λ (s : State). s.shown) c.read_geometry.ensures.state ∙ told in
+    let here = ap (λ (s : State). s.shown) c.read_geometry.ensures.calls.state ∙ told in
     geometry-manifest image c.in_ok-geometry.geometry _ (c.in_ok-geometry.ensures.read image told) (c.open.ensures.damaged b (handed_on _ _ _ _ _ c.in_err-manifest.was fault.1 fault.2 is) image here)
 
 pub returns-in_err-manifest-clause-damaged_block : goal.returns-in_err-manifest-clause-damaged_block
@@ -23,5 +23,5 @@ returns-in_err-manifest-clause-damaged_block g c = λ b is.
 
 pub returns-clause-read : goal.returns-clause-read
 returns-clause-read g c = λ image told.
-    let here = ap (λ (s : State). s.shown) c.read_geometry.ensures.state ∙ told in
+    let here = ap (λ (s : State). s.shown) c.read_geometry.ensures.calls.state ∙ told in
     geometry-manifest image c.in_ok-geometry.geometry _ (c.in_ok-geometry.ensures.read image told) (c.in_ok-manifest.ensures.read image here)

@@ -3,7 +3,7 @@ use Rattle.std.specs.Prelude.{IsErrOf}
 use Rattle.std.proofs.lemmas.Result.{err_from_is_err_and}
 use Rattle.lt_htable.specs.declared.faults.LookFault.TheVariants.{Damaged}
 use Rattle.lt_store.specs.declared.counts.Stat.{Stat}
-use Rattle.lt_store.specs.declared.writing.Taken.TheVariants as taken
+use Rattle.lt_store.specs.declared.acting.Outcome.TheVariants as outcomes
 use Rattle.lt_terms.specs.Items.{Item, item_cost, put_of, delete_of}
 use Rattle.lt_store.specs.Acting.{command_of, write_of}
 use Rattle.lt_device.specs.State as told
@@ -15,7 +15,7 @@ use Rattle.lt_store.specs.Going.{appended}
 use Rattle.lt_store.specs.Taking.{is_due, readied}
 use Rattle.lt_store.specs.Open.{StoreView, state_of}
 use Rattle.lt_store.specs.View.{view_of}
-use Rattle.lt_store.proofs.ActLaws.{asks-goes, asks-rooted, stat-step, put-step, delete-step, refused-goes, same-item, same-key, same-stat, same-taken, tells-fault, tells-none, tells-value, limits}
+use Rattle.lt_store.proofs.ActLaws.{asks-goes, asks-rooted, event-rooted, event-writes, none-rooted, stat-step, put-step, delete-step, refused-goes, same-err, same-key, same-ok, same-stat, tells-fault, tells-none, tells-value, limits}
 use Rattle.lt_store.proofs.AnswerLaws.{all-writes}
 use Rattle.lt_store.proofs.FullLaws.{image-counts}
 use Rattle.lt_store.proofs.GoLaws.{goes-none}
@@ -28,7 +28,7 @@ use Rattle.lt_terms.proofs.CauseLaws.{OnErr-always}
 
 pub returns-in_err-put-in-Put-clause-goes_on : goal.returns-in_err-put-in-Put-clause-goes_on
 returns-in_err-put-in-Put-clause-goes_on g c = OnErr-always c.from_residual.result (λ is durable opened.
-    refused-goes c.put.new.self.is_up c.put.result c.in_err-put-in-Put.field-0.0 c.in_err-put-in-Put.was c.put.ensures.up c.put.ensures.undamaged _ (λ fault. c.put.ensures.refused fault durable opened) is)
+    refused-goes c.put.new.self.is_up c.put.result c.in_err-put-in-Put.field-0.0 c.in_err-put-in-Put.was c.put.ensures.up c.put.ensures.while_rooted.undamaged _ (λ fault. c.put.ensures.writes.refused fault durable opened) is)
 
 pub returns-in_err-put-in-Put-clause-broken : goal.returns-in_err-put-in-Put-clause-broken
 returns-in_err-put-in-Put-clause-broken g c = OnErr-always c.from_residual.result (λ durable opened.
@@ -41,18 +41,13 @@ returns-in_ok-put-in-Put-clause-step g c = λ durable opened.
     let number = all-writes (view_of s) durable (g.D.Device.state c.args.device.now) opened (vec_len s.filters) (s.kept c.requires.up) c.in-Put.key.now in
     rw c.in-Put.is
     (put-step s.manifest.manifest.header.extents s.writes (state_of (view_of s) durable) answer.field-0 number (limits answer.field-0 _ answer.ensures.limit)
-    (λ needed free is. ((answer.ensures.full needed free (ap Ok is)).short, (answer.ensures.full_images needed free (ap Ok is) durable opened).1)) c.in-Put.key.now c.in-Put.value.now c.args.out.now)
-
-pub returns-in_ok-put-in-Put-clause-full_images : goal.returns-in_ok-put-in-Put-clause-full_images
-returns-in_ok-put-in-Put-clause-full_images g c = λ needed free is durable opened.
-    let answer = c.in_ok-put-in-Put in
-    (answer.ensures.full_images needed free (ap Ok (same-taken answer.field-0 (taken.Full needed free) is)) durable opened).0
+    (λ needed free is. ((answer.ensures.full needed free (ap Ok is)).short, (answer.ensures.writes.full_images needed free (ap Ok is) durable opened).1)) c.in-Put.key.now c.in-Put.value.now c.args.out.now)
 
 -- ---- a delete
 
 pub returns-in_err-delete-in-Delete-clause-goes_on : goal.returns-in_err-delete-in-Delete-clause-goes_on
 returns-in_err-delete-in-Delete-clause-goes_on g c = OnErr-always c.from_residual-in_err-delete-in-Delete.result (λ is durable opened.
-    refused-goes c.delete.new.self.is_up c.delete.result c.in_err-delete-in-Delete.field-0.0 c.in_err-delete-in-Delete.was c.delete.ensures.up c.delete.ensures.undamaged _ (λ fault. c.delete.ensures.refused fault durable opened) is)
+    refused-goes c.delete.new.self.is_up c.delete.result c.in_err-delete-in-Delete.field-0.0 c.in_err-delete-in-Delete.was c.delete.ensures.up c.delete.ensures.while_rooted.undamaged _ (λ fault. c.delete.ensures.writes.refused fault durable opened) is)
 
 pub returns-in_err-delete-in-Delete-clause-broken : goal.returns-in_err-delete-in-Delete-clause-broken
 returns-in_err-delete-in-Delete-clause-broken g c = OnErr-always c.from_residual-in_err-delete-in-Delete.result (λ durable opened.
@@ -65,28 +60,23 @@ returns-in_ok-delete-in-Delete-clause-step g c = λ durable opened.
     let number = all-writes (view_of s) durable (g.D.Device.state c.args.device.now) opened (vec_len s.filters) (s.kept c.requires.up) c.in-Delete.key.now in
     rw c.in-Delete.is
     (delete-step s.manifest.manifest.header.extents s.writes (state_of (view_of s) durable) answer.field-0 number (limits answer.field-0 _ answer.ensures.limit)
-    (λ needed free is. ((answer.ensures.full needed free (ap Ok is)).short, (answer.ensures.full_images needed free (ap Ok is) durable opened).1)) c.in-Delete.key.now c.args.out.now)
-
-pub returns-in_ok-delete-in-Delete-clause-full_images : goal.returns-in_ok-delete-in-Delete-clause-full_images
-returns-in_ok-delete-in-Delete-clause-full_images g c = λ needed free is durable opened.
-    let answer = c.in_ok-delete-in-Delete in
-    (answer.ensures.full_images needed free (ap Ok (same-taken answer.field-0 (taken.Full needed free) is)) durable opened).0
+    (λ needed free is. ((answer.ensures.full needed free (ap Ok is)).short, (answer.ensures.writes.full_images needed free (ap Ok is) durable opened).1)) c.in-Delete.key.now c.args.out.now)
 
 -- ---- a get
 
 pub returns-in_err-len-in-Get-clause-goes_on : goal.returns-in_err-len-in-Get-clause-goes_on
 returns-in_err-len-in-Get-clause-goes_on g c = OnErr-always c.from_residual-in_err-len-in-Get.result (λ is durable opened.
-    asks-goes (view_of c.args.self.now) (view_of c.get.new.self) durable _ _ c.get.ensures.unchanged c.get.ensures.state opened)
+    asks-goes (view_of c.args.self.now) (view_of c.get.new.self) durable _ _ c.get.ensures.unchanged c.get.ensures.calls.state opened)
 
 pub returns-in_err-len-in-Get-clause-broken : goal.returns-in_err-len-in-Get-clause-broken
 returns-in_err-len-in-Get-clause-broken g c = OnErr-always c.from_residual-in_err-len-in-Get.result (λ durable opened.
-    (asks-goes (view_of c.args.self.now) (view_of c.get.new.self) durable _ _ c.get.ensures.unchanged c.get.ensures.state opened).survives)
+    (asks-goes (view_of c.args.self.now) (view_of c.get.new.self) durable _ _ c.get.ensures.unchanged c.get.ensures.calls.state opened).survives)
 
 pub returns-in-Some-clause-goes : goal.returns-in-Some-clause-goes
-returns-in-Some-clause-goes g c = λ durable opened. asks-goes (view_of c.args.self.now) (view_of c.get.new.self) durable _ _ c.get.ensures.unchanged c.get.ensures.state opened
+returns-in-Some-clause-goes g c = λ durable opened. asks-goes (view_of c.args.self.now) (view_of c.get.new.self) durable _ _ c.get.ensures.unchanged c.get.ensures.calls.state opened
 
 pub returns-in-None-clause-goes : goal.returns-in-None-clause-goes
-returns-in-None-clause-goes g c = λ durable opened. asks-goes (view_of c.args.self.now) (view_of c.get.new.self) durable _ _ c.get.ensures.unchanged c.get.ensures.state opened
+returns-in-None-clause-goes g c = λ durable opened. asks-goes (view_of c.args.self.now) (view_of c.get.new.self) durable _ _ c.get.ensures.unchanged c.get.ensures.calls.state opened
 
 pub returns-in_err-len-in-Get-clause-sound : goal.returns-in_err-len-in-Get-clause-sound
 returns-in_err-len-in-Get-clause-sound g c = λ b durable opened is.
@@ -126,42 +116,14 @@ returns-in-Stat-clause-step g c = λ durable opened.
 pub returns-in-Stat-clause-goes : goal.returns-in-Stat-clause-goes
 returns-in-Stat-clause-goes g c = λ durable opened. goes-none (view_of c.args.self.now) durable _ opened
 
-pub returns-in_err-len-in-Get-clause-rooted : goal.returns-in_err-len-in-Get-clause-rooted
-returns-in_err-len-in-Get-clause-rooted g c = λ durable opened. asks-rooted (view_of c.args.self.now) durable (g.D.Device.state c.args.device.now) (g.D.Device.state c.get.new.device) c.get.ensures.state opened
-
-pub returns-in-Some-clause-rooted : goal.returns-in-Some-clause-rooted
-returns-in-Some-clause-rooted g c = λ durable opened. asks-rooted (view_of c.args.self.now) durable (g.D.Device.state c.args.device.now) (g.D.Device.state c.get.new.device) c.get.ensures.state opened
-
-pub returns-in-None-clause-rooted : goal.returns-in-None-clause-rooted
-returns-in-None-clause-rooted g c = λ durable opened. asks-rooted (view_of c.args.self.now) durable (g.D.Device.state c.args.device.now) (g.D.Device.state c.get.new.device) c.get.ensures.state opened
-
-pub returns-in-Stat-clause-rooted : goal.returns-in-Stat-clause-rooted
-returns-in-Stat-clause-rooted g c = λ durable opened. rooted-none (view_of c.args.self.now) durable (g.D.Device.state c.args.device.now) opened
-
-pub returns-in_ok-put-in-Put-clause-flushed : goal.returns-in_ok-put-in-Put-clause-flushed
-returns-in_ok-put-in-Put-clause-flushed g c = λ item is due ok durable opened.
-    let v : StoreView = view_of c.args.self.now in
-    let answer = c.in_ok-put-in-Put in
-    let same : put_of c.in-Put.key.now c.in-Put.value.now ≡ item = same-item _ _ (sym (ap write_of c.in-Put.is) ∙ is) in
-    subst (λ (i : Item). is_due (readied v (item_cost i)) ≡ true → (x : StoreView) × IsFlushed (readied v (item_cost i)) x (g.D.Device.state c.put.new.device) × (view_of c.put.new.self ≡ appended x i)) same
-    (λ late. answer.ensures.flushed late (ap Ok (same-taken answer.field-0 taken.Ok ok)) durable opened) due
-
-pub returns-in_ok-delete-in-Delete-clause-flushed : goal.returns-in_ok-delete-in-Delete-clause-flushed
-returns-in_ok-delete-in-Delete-clause-flushed g c = λ item is due ok durable opened.
-    let v : StoreView = view_of c.args.self.now in
-    let answer = c.in_ok-delete-in-Delete in
-    let same : delete_of c.in-Delete.key.now ≡ item = same-item _ _ (sym (ap write_of c.in-Delete.is) ∙ is) in
-    subst (λ (i : Item). is_due (readied v (item_cost i)) ≡ true → (x : StoreView) × IsFlushed (readied v (item_cost i)) x (g.D.Device.state c.delete.new.device) × (view_of c.delete.new.self ≡ appended x i)) same
-    (λ late. answer.ensures.flushed late (ap Ok (same-taken answer.field-0 taken.Ok ok)) durable opened) due
-
 pub returns-in_err-len-in-Get-clause-whole : goal.returns-in_err-len-in-Get-clause-whole
-returns-in_err-len-in-Get-clause-whole g c = λ durable opened. whole-asked (view_of c.args.self.now) durable (g.D.Device.state c.args.device.now) (g.D.Device.state c.get.new.device) c.get.ensures.state opened
+returns-in_err-len-in-Get-clause-whole g c = λ durable opened. whole-asked (view_of c.args.self.now) durable (g.D.Device.state c.args.device.now) (g.D.Device.state c.get.new.device) c.get.ensures.calls.state opened
 
 pub returns-in-Some-clause-whole : goal.returns-in-Some-clause-whole
-returns-in-Some-clause-whole g c = λ durable opened. whole-asked (view_of c.args.self.now) durable (g.D.Device.state c.args.device.now) (g.D.Device.state c.get.new.device) c.get.ensures.state opened
+returns-in-Some-clause-whole g c = λ durable opened. whole-asked (view_of c.args.self.now) durable (g.D.Device.state c.args.device.now) (g.D.Device.state c.get.new.device) c.get.ensures.calls.state opened
 
 pub returns-in-None-clause-whole : goal.returns-in-None-clause-whole
-returns-in-None-clause-whole g c = λ durable opened. whole-asked (view_of c.args.self.now) durable (g.D.Device.state c.args.device.now) (g.D.Device.state c.get.new.device) c.get.ensures.state opened
+returns-in-None-clause-whole g c = λ durable opened. whole-asked (view_of c.args.self.now) durable (g.D.Device.state c.args.device.now) (g.D.Device.state c.get.new.device) c.get.ensures.calls.state opened
 
 pub returns-in-Stat-clause-whole : goal.returns-in-Stat-clause-whole
 returns-in-Stat-clause-whole g c = λ durable opened. whole-none (view_of c.args.self.now) durable (g.D.Device.state c.args.device.now) opened
@@ -179,5 +141,61 @@ returns-in_err-len-in-Get-clause-damaged g c = λ b is.
     record {
       key = c.in-Get.key.now;
       get = ap command_of c.in-Get.is;
-      stops = subst (λ (d : told.State). StopsGet c.args.self.now.manifest d.shown c.in-Get.key.now b) (sym c.get.ensures.state) (c.get.ensures.damaged b was);
+      stops = subst (λ (d : told.State). StopsGet c.args.self.now.manifest d.shown c.in-Get.key.now b) (sym c.get.ensures.calls.state) (c.get.ensures.damaged b was);
     }
+
+pub returns-in_ok-put-in-Put-clause-writes : goal.returns-in_ok-put-in-Put-clause-writes
+returns-in_ok-put-in-Put-clause-writes g c =
+    let answer = c.in_ok-put-in-Put in
+    rw c.in-Put.is (event-writes g.D.Device (put_of c.in-Put.key.now c.in-Put.value.now) (view_of c.args.self.now) (view_of c.put.new.self) c.put.result (Ok (outcomes.Taken answer.field-0)) (same-ok c.put.result answer.field-0 answer.was) c.args.device.now c.put.new.device c.put.ensures.writes)
+
+pub returns-in_err-put-in-Put-clause-writes : goal.returns-in_err-put-in-Put-clause-writes
+returns-in_err-put-in-Put-clause-writes g c =
+    let fault = err_from_is_err_and c.from_residual.result c.from_residual.ensures.1 in
+    rw c.in-Put.is (event-writes g.D.Device (put_of c.in-Put.key.now c.in-Put.value.now) (view_of c.args.self.now) (view_of c.put.new.self) c.put.result c.from_residual.result (same-err c.put.result c.from_residual.result fault.0 (c.in_err-put-in-Put.was ∙ ap Err (sym fault.2)) fault.1) c.args.device.now c.put.new.device c.put.ensures.writes)
+
+pub returns-in_ok-put-in-Put-clause-while_rooted : goal.returns-in_ok-put-in-Put-clause-while_rooted
+returns-in_ok-put-in-Put-clause-while_rooted g c =
+    let answer = c.in_ok-put-in-Put in
+    rw c.in-Put.is (event-rooted g.D.Device (put_of c.in-Put.key.now c.in-Put.value.now) (view_of c.args.self.now) (view_of c.put.new.self) c.put.result (Ok (outcomes.Taken answer.field-0)) (same-ok c.put.result answer.field-0 answer.was) c.args.device.now c.put.new.device c.put.ensures.while_rooted)
+
+pub returns-in_err-put-in-Put-clause-while_rooted : goal.returns-in_err-put-in-Put-clause-while_rooted
+returns-in_err-put-in-Put-clause-while_rooted g c =
+    let fault = err_from_is_err_and c.from_residual.result c.from_residual.ensures.1 in
+    rw c.in-Put.is (event-rooted g.D.Device (put_of c.in-Put.key.now c.in-Put.value.now) (view_of c.args.self.now) (view_of c.put.new.self) c.put.result c.from_residual.result (same-err c.put.result c.from_residual.result fault.0 (c.in_err-put-in-Put.was ∙ ap Err (sym fault.2)) fault.1) c.args.device.now c.put.new.device c.put.ensures.while_rooted)
+
+pub returns-in_ok-delete-in-Delete-clause-writes : goal.returns-in_ok-delete-in-Delete-clause-writes
+returns-in_ok-delete-in-Delete-clause-writes g c =
+    let answer = c.in_ok-delete-in-Delete in
+    rw c.in-Delete.is (event-writes g.D.Device (delete_of c.in-Delete.key.now) (view_of c.args.self.now) (view_of c.delete.new.self) c.delete.result (Ok (outcomes.Taken answer.field-0)) (same-ok c.delete.result answer.field-0 answer.was) c.args.device.now c.delete.new.device c.delete.ensures.writes)
+
+pub returns-in_err-delete-in-Delete-clause-writes : goal.returns-in_err-delete-in-Delete-clause-writes
+returns-in_err-delete-in-Delete-clause-writes g c =
+    let fault = err_from_is_err_and c.from_residual-in_err-delete-in-Delete.result c.from_residual-in_err-delete-in-Delete.ensures.1 in
+    rw c.in-Delete.is (event-writes g.D.Device (delete_of c.in-Delete.key.now) (view_of c.args.self.now) (view_of c.delete.new.self) c.delete.result c.from_residual-in_err-delete-in-Delete.result (same-err c.delete.result c.from_residual-in_err-delete-in-Delete.result fault.0 (c.in_err-delete-in-Delete.was ∙ ap Err (sym fault.2)) fault.1) c.args.device.now c.delete.new.device c.delete.ensures.writes)
+
+pub returns-in_ok-delete-in-Delete-clause-while_rooted : goal.returns-in_ok-delete-in-Delete-clause-while_rooted
+returns-in_ok-delete-in-Delete-clause-while_rooted g c =
+    let answer = c.in_ok-delete-in-Delete in
+    rw c.in-Delete.is (event-rooted g.D.Device (delete_of c.in-Delete.key.now) (view_of c.args.self.now) (view_of c.delete.new.self) c.delete.result (Ok (outcomes.Taken answer.field-0)) (same-ok c.delete.result answer.field-0 answer.was) c.args.device.now c.delete.new.device c.delete.ensures.while_rooted)
+
+pub returns-in_err-delete-in-Delete-clause-while_rooted : goal.returns-in_err-delete-in-Delete-clause-while_rooted
+returns-in_err-delete-in-Delete-clause-while_rooted g c =
+    let fault = err_from_is_err_and c.from_residual-in_err-delete-in-Delete.result c.from_residual-in_err-delete-in-Delete.ensures.1 in
+    rw c.in-Delete.is (event-rooted g.D.Device (delete_of c.in-Delete.key.now) (view_of c.args.self.now) (view_of c.delete.new.self) c.delete.result c.from_residual-in_err-delete-in-Delete.result (same-err c.delete.result c.from_residual-in_err-delete-in-Delete.result fault.0 (c.in_err-delete-in-Delete.was ∙ ap Err (sym fault.2)) fault.1) c.args.device.now c.delete.new.device c.delete.ensures.while_rooted)
+
+pub returns-in_err-len-in-Get-clause-while_rooted : goal.returns-in_err-len-in-Get-clause-while_rooted
+returns-in_err-len-in-Get-clause-while_rooted g c =
+    rw c.in-Get.is (none-rooted g.D.Device (view_of c.args.self.now) (view_of c.get.new.self) c.from_residual-in_err-len-in-Get.result c.args.device.now c.get.new.device (search rules) (λ durable opened. asks-rooted (view_of c.args.self.now) durable (g.D.Device.state c.args.device.now) (g.D.Device.state c.get.new.device) c.get.ensures.calls.state opened))
+
+pub returns-in-Some-clause-while_rooted : goal.returns-in-Some-clause-while_rooted
+returns-in-Some-clause-while_rooted g c =
+    rw c.in-Get.is (none-rooted g.D.Device (view_of c.args.self.now) (view_of c.get.new.self) (Ok (outcomes.Value c.in-Some.len)) c.args.device.now c.get.new.device (search rules) (λ durable opened. asks-rooted (view_of c.args.self.now) durable (g.D.Device.state c.args.device.now) (g.D.Device.state c.get.new.device) c.get.ensures.calls.state opened))
+
+pub returns-in-None-clause-while_rooted : goal.returns-in-None-clause-while_rooted
+returns-in-None-clause-while_rooted g c =
+    rw c.in-Get.is (none-rooted g.D.Device (view_of c.args.self.now) (view_of c.get.new.self) (Ok outcomes.Missing) c.args.device.now c.get.new.device (search rules) (λ durable opened. asks-rooted (view_of c.args.self.now) durable (g.D.Device.state c.args.device.now) (g.D.Device.state c.get.new.device) c.get.ensures.calls.state opened))
+
+pub returns-in-Stat-clause-while_rooted : goal.returns-in-Stat-clause-while_rooted
+returns-in-Stat-clause-while_rooted g c =
+    rw c.in-Stat.is (none-rooted g.D.Device (view_of c.args.self.now) (view_of c.args.self.now) (Ok (outcomes.Stat c.stat.result)) c.args.device.now c.args.device.now (search rules) (λ durable opened. rooted-none (view_of c.args.self.now) durable (g.D.Device.state c.args.device.now) opened))

@@ -81,7 +81,7 @@ give_back-requires-clause-below g c = λ x there.
     let kept = me.kept c.requires.up in
     let r = subst (λ xs. Reserves c.len-2.result me.extents c.take.new.self xs c.take.new.into.items) c.in_ok-numbers.ensures.items c.in_default-take.ensures.ok in
     let below = reserved-below me.manifest me.log me.memory me.extents c.take.new.self _ _ c.len-2.result c.take.new.into.items kept r x (subst (λ xs. is_in x xs ≡ true) c.deref-in-Err-NoMemory.ensures.value there) in
-    let same : length c.flush_into.new.self.extents ≡ length c.take.new.self = ap length c.flush_into.ensures.taken in
+    let same : length c.flush_into.new.self.extents ≡ length c.take.new.self = ap length c.flush_into.ensures.stays_down.same_extents in
     omega (arith, below, same)
 
 pub returns-in-Ok-clause-stays : goal.returns-in-Ok-clause-stays
@@ -95,11 +95,8 @@ returns-in-Ok-clause-opened g c = λ ok d o.
 pub returns-in-Err-NoMemory-clause-stays : goal.returns-in-Err-NoMemory-clause-stays
 returns-in-Err-NoMemory-clause-stays g c = λ d o. c.flush_into.ensures.stays d (open-alike (view_of c.args.self.now) d (g.D.Device.state c.args.device.now) false c.take.new.self o)
 
-pub returns-in-Err-Device-clause-stays : goal.returns-in-Err-Device-clause-stays
-returns-in-Err-Device-clause-stays g c = λ d o. c.flush_into.ensures.stays d (open-alike (view_of c.args.self.now) d (g.D.Device.state c.args.device.now) false c.take.new.self o)
-
-pub returns-in-Err-NoMemory-clause-opened_again : goal.returns-in-Err-NoMemory-clause-opened_again
-returns-in-Err-NoMemory-clause-opened_again g c = λ none d o.
+pub returns-in-Err-NoMemory-clause-opened : goal.returns-in-Err-NoMemory-clause-opened
+returns-in-Err-NoMemory-clause-opened g c = λ none d o.
     open-alike (view_of c.flush_into.new.self) d (g.D.Device.state c.flush_into.new.device) true c.give_back.new.extents
     (c.in-Err-NoMemory.ensures.opened_again (search rules) d (open-alike (view_of c.args.self.now) d (g.D.Device.state c.args.device.now) false c.take.new.self o))
 
@@ -120,16 +117,15 @@ invariant_of-self-in-Ok g c =
     let len = c.len-2.ensures in
     let size = c.in_ok-tables.tables.ok.0 in
     let some : 1 ≤ length c.take.new.into.items = omega (arith, count, tables, len, size) in
-    let filled : length new.filters.items ≡ length me.filters.items = c.in-Ok.ensures.filters in
+    let filled : length new.filters.items ≡ length me.filters.items = c.in-Ok.ensures.stays_down.room in
     let new_len = new.filters.ok.0 in
     let old_len = me.filters.ok.0 in
     let header : Header = flush_header v in
-    let flushed_is = c.in-Ok.ensures.flushed in
-    let manifest = c.in-Ok.ensures.manifest ∙ ap (λ xs. after_commit me.manifest.manifest (flush xs) header) c.deref-3.ensures.value in
-    let k = flushed-kept me.manifest new.manifest me.log me.memory me.extents c.take.new.self _ _ c.len-2.result c.take.new.into.items header kept r some c.in-Ok.ensures.stands c.in-Ok.ensures.geometry manifest refl refl refl in
+    let flushed_is = c.in-Ok.ensures.committed.is in
+    let manifest = c.in-Ok.ensures.committed.manifest ∙ ap (λ xs. after_commit me.manifest.manifest (flush xs) header) c.deref-3.ensures.value in
+    let k = flushed-kept me.manifest new.manifest me.log me.memory me.extents c.take.new.self _ _ c.len-2.result c.take.new.into.items header kept r some c.in-Ok.ensures.committed.stands c.in-Ok.ensures.stays_down.geometry manifest refl refl refl in
     record {
-      geometry_is = new.geometry_is;
-      kept = λ up. kept-along new.manifest (flushed_log me.log header) new.log [] new.memory c.take.new.self new.extents _ _ _ _ (ap (λ (w : StoreView). w.log) flushed_is) (ap (λ (w : StoreView). w.memory) flushed_is) c.in-Ok.ensures.taken (omega (arith, filled, new_len, old_len)) c.in-Ok.ensures.writes k;
+      kept = λ up. kept-along new.manifest (flushed_log me.log header) new.log [] new.memory c.take.new.self new.extents _ _ _ _ (ap (λ (w : StoreView). w.log) flushed_is) (ap (λ (w : StoreView). w.memory) flushed_is) c.in-Ok.ensures.stays_down.same_extents (omega (arith, filled, new_len, old_len)) c.in-Ok.ensures.stays_down.same_writes k;
       refused_is = λ up short is. absurd (c.in_default.not-Some short (sym c.flush_into.ensures.refused ∙ is));
     }
 
@@ -146,10 +142,9 @@ invariant_of-self-in-Err-NoMemory g c =
     let before = kept-along me.manifest me.log me.log me.memory me.memory me.extents me.extents _ (length me.filters.items) me.writes me.writes refl refl refl old_len refl kept in
     let k' = c.in-Err-NoMemory.ensures.kept (search rules) me.extents before in
     let numbers : c.deref-in-Err-NoMemory.result.now ≡ c.take.new.into.items = c.deref-in-Err-NoMemory.ensures.value in
-    let taken : new.extents ≡ c.take.new.self = c.in-Err-NoMemory.ensures.taken in
+    let taken : new.extents ≡ c.take.new.self = c.in-Err-NoMemory.ensures.stays_down.same_extents in
     let size : length c.give_back.new.extents ≡ length c.take.new.self = c.give_back.ensures.extents ∙ ap length taken in
     record {
-      geometry_is = new.geometry_is;
       kept = λ up. kept-along new.manifest new.log new.log new.memory new.memory c.give_back.new.extents c.give_back.new.extents (length new.filters.items) _ new.writes new.writes refl refl refl (sym new_len) refl
           (back-kept me.manifest new.manifest me.log new.log me.memory new.memory me.extents c.take.new.self c.give_back.new.extents _ (length new.filters.items) me.writes new.writes c.len-2.result c.take.new.into.items kept k' r size
           (λ x small. subst (λ ns. is_free c.give_back.new.extents x ≡ (is_free c.take.new.self x || is_in x ns)) numbers (subst (λ e. is_free c.give_back.new.extents x ≡ (is_free e x || is_in x c.deref-in-Err-NoMemory.result.now)) taken (c.give_back.ensures.free x (subst (λ e. x < length e) (sym taken) small)))));
@@ -177,17 +172,20 @@ returns-in-Ok-clause-rooted g c = λ d o. c.flush_into.ensures.rooted d (open-al
 pub returns-in-Err-NoMemory-clause-rooted : goal.returns-in-Err-NoMemory-clause-rooted
 returns-in-Err-NoMemory-clause-rooted g c = λ d o. c.flush_into.ensures.rooted d (open-alike (view_of c.args.self.now) d (g.D.Device.state c.args.device.now) false c.take.new.self o)
 
-pub returns-in-Err-Device-clause-rooted : goal.returns-in-Err-Device-clause-rooted
-returns-in-Err-Device-clause-rooted g c = λ d o. c.flush_into.ensures.rooted d (open-alike (view_of c.args.self.now) d (g.D.Device.state c.args.device.now) false c.take.new.self o)
-
 pub returns-in-Ok-clause-flushed : goal.returns-in-Ok-clause-flushed
 returns-in-Ok-clause-flushed g c = λ is d o.
-    let flushed_is = c.in-Ok.ensures.flushed in
+    let flushed_is = c.in-Ok.ensures.committed.is in
     record {
       numbers = c.deref-3.result.now;
       tables = c.in-Ok.ensures.tables d (open-alike (view_of c.args.self.now) d (g.D.Device.state c.args.device.now) false c.take.new.self o);
-      manifest = c.in-Ok.ensures.manifest;
+      manifest = c.in-Ok.ensures.committed.manifest;
       log = ap (λ (w : StoreView). w.log) flushed_is;
       memory = ap (λ (w : StoreView). w.memory) flushed_is;
-      writes = c.in-Ok.ensures.writes;
+      writes = c.in-Ok.ensures.stays_down.same_writes;
     }
+
+pub returns-clause-stays : goal.returns-clause-stays
+returns-clause-stays g c = λ d o. c.flush_into.ensures.stays d (open-alike (view_of c.args.self.now) d (g.D.Device.state c.args.device.now) false c.take.new.self o)
+
+pub returns-clause-rooted : goal.returns-clause-rooted
+returns-clause-rooted g c = λ d o. c.flush_into.ensures.rooted d (open-alike (view_of c.args.self.now) d (g.D.Device.state c.args.device.now) false c.take.new.self o)

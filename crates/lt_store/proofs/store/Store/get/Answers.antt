@@ -18,7 +18,7 @@ use Rattle.lt_store.proofs.store.Store.get.Goals.{in-Some, in-None+in_ok-version
 pub search-requires : goal.search-requires
 search-requires g c =
     let k = c.args.self.now.kept c.requires.up in
-    rw (c.pile-tables.ensures, c.trie.ensures.nodes, c.args.self.now.geometry_is)
+    rw (c.pile-tables.ensures, c.trie.ensures.nodes, c.geometry.ensures.geometry)
     (tables-within _ _ _ c.args.self.now.manifest.geometry c.args.self.now.manifest.manifest.trie k.manifest.trie c.requires.within)
 
 pub returns-in_err-version-in-None-clause-answer :
@@ -28,7 +28,7 @@ returns-in_err-version-in-None-clause-answer g c = λ durable opened.
     let k = s.kept c.requires.up in
     let fault = err_from_is_err_and c.from_residual.result c.from_residual.ensures.1 in
     let tables_are = c.pile-tables.ensures ∙ ap (λ (t : Trie). (node_at t root).tables) c.trie.ensures.nodes in
-    let answer = searched (view_of s) durable (g.D.Device.state c.args.device.now) opened (vec_len s.filters) k c.args.key.now s.geometry c.deref.result.now c.pile-tables.result.now (Err c.in_err-version-in-None.field-0.0) c.args.out.now c.search.new.out s.geometry_is c.deref.ensures.value tables_are c.in_err-version-in-None.ensures.answer in
+    let answer = searched (view_of s) durable (g.D.Device.state c.args.device.now) opened (vec_len s.filters) k c.args.key.now c.geometry.result.now c.deref.result.now c.pile-tables.result.now (Err c.in_err-version-in-None.field-0.0) c.args.out.now c.search.new.out c.geometry.ensures.geometry c.deref.ensures.value tables_are c.in_err-version-in-None.ensures.answer in
     rw (fault.1, fault.2) (answer-fault (view_of s) durable (g.D.Device.state c.args.device.now) opened (vec_len s.filters) k c.args.key.now c.in_err-version-in-None.field-0.0 c.args.out.now c.search.new.out answer)
 
 pub returns-clause-answer : goal.returns-clause-answer
@@ -41,7 +41,7 @@ returns-clause-answer g c = λ durable opened.
           rw (w.out-is, c.value_len.ensures, w.version-is) at
       | in-None+in_ok-version-in-None w ↦
           let tables_are = w.pile-tables.ensures ∙ ap (λ (t : Trie). (node_at t root).tables) w.trie.ensures.nodes in
-          let answer = searched (view_of s) durable (g.D.Device.state c.args.device.now) opened (vec_len s.filters) k c.args.key.now s.geometry w.deref.result.now w.pile-tables.result.now (Ok w.in_ok-version-in-None.version) c.args.out.now w.search.new.out s.geometry_is w.deref.ensures.value tables_are w.in_ok-version-in-None.ensures.answer in
+          let answer = searched (view_of s) durable (g.D.Device.state c.args.device.now) opened (vec_len s.filters) k c.args.key.now w.geometry.result.now w.deref.result.now w.pile-tables.result.now (Ok w.in_ok-version-in-None.version) c.args.out.now w.search.new.out w.geometry.ensures.geometry w.deref.ensures.value tables_are w.in_ok-version-in-None.ensures.answer in
           let at = answer-pile (view_of s) durable (g.D.Device.state c.args.device.now) opened (vec_len s.filters) k c.args.key.now w.in_ok-version-in-None.version c.args.out.now w.search.new.out (sym w.in-None.ensures.item) answer in
           rw (w.out-is, c.value_len.ensures, w.version-is) at
     ]
@@ -51,7 +51,7 @@ returns-in_err-version-in-None-clause-stops g c = λ durable image j opened told
     let s = c.args.self.now in
     let k = s.kept c.requires.up in
     let tables_are = c.pile-tables.ensures ∙ ap (λ (t : Trie). (node_at t root).tables) c.trie.ensures.nodes in
-    stopped (view_of s) durable (g.D.Device.state c.args.device.now) opened (vec_len s.filters) k c.args.key.now s.geometry c.deref.result.now c.pile-tables.result.now _ _ s.geometry_is c.deref.ensures.value tables_are c.search.ensures.stops image j told holds
+    stopped (view_of s) durable (g.D.Device.state c.args.device.now) opened (vec_len s.filters) k c.args.key.now c.geometry.result.now c.deref.result.now c.pile-tables.result.now _ _ c.geometry.ensures.geometry c.deref.ensures.value tables_are c.search.ensures.stops image j told holds
 
 pub returns-clause-stops : goal.returns-clause-stops
 returns-clause-stops g c = λ durable image j opened told holds.
@@ -62,7 +62,7 @@ returns-clause-stops g c = λ durable image j opened told holds.
       | in-None+in_ok-version-in-None w ↦
           let tables_are = w.pile-tables.ensures ∙ ap (λ (t : Trie). (node_at t root).tables) w.trie.ensures.nodes in
           rw w.device-is
-          (stopped (view_of s) durable (g.D.Device.state c.args.device.now) opened (vec_len s.filters) k c.args.key.now s.geometry w.deref.result.now w.pile-tables.result.now _ _ s.geometry_is w.deref.ensures.value tables_are w.search.ensures.stops image j told holds)
+          (stopped (view_of s) durable (g.D.Device.state c.args.device.now) opened (vec_len s.filters) k c.args.key.now w.geometry.result.now w.deref.result.now w.pile-tables.result.now _ _ w.geometry.ensures.geometry w.deref.ensures.value tables_are w.search.ensures.stops image j told holds)
     ]
 
 pub returns-in_err-version-in-None-clause-seen : goal.returns-in_err-version-in-None-clause-seen
@@ -71,7 +71,7 @@ returns-in_err-version-in-None-clause-seen g c = λ image told.
     let v : StoreView = view_of s in
     let fault = err_from_is_err_and c.from_residual.result c.from_residual.ensures.1 in
     let tables_are = c.pile-tables.ensures ∙ ap (λ (t : Trie). (node_at t root).tables) c.trie.ensures.nodes in
-    let answer = given-seen v image c.args.key.now s.geometry c.deref.result.now c.pile-tables.result.now (Err c.in_err-version-in-None.field-0.0) c.args.out.now c.search.new.out (sym c.in-None.ensures.item) s.geometry_is c.deref.ensures.value tables_are (c.in_err-version-in-None.ensures.seen image told) in
+    let answer = given-seen v image c.args.key.now c.geometry.result.now c.deref.result.now c.pile-tables.result.now (Err c.in_err-version-in-None.field-0.0) c.args.out.now c.search.new.out (sym c.in-None.ensures.item) c.geometry.ensures.geometry c.deref.ensures.value tables_are (c.in_err-version-in-None.ensures.seen image told) in
     rw (fault.1, fault.2) (answers-fault (seen_of v image c.args.key.now) c.in_err-version-in-None.field-0.0 c.args.out.now c.search.new.out answer)
 
 pub returns-clause-seen : goal.returns-clause-seen
@@ -86,7 +86,7 @@ returns-clause-seen g c = λ image told.
           rw (w.out-is, c.value_len.ensures, w.version-is) at
       | in-None+in_ok-version-in-None w ↦
           let tables_are = w.pile-tables.ensures ∙ ap (λ (t : Trie). (node_at t root).tables) w.trie.ensures.nodes in
-          let answer = given-seen v image c.args.key.now s.geometry w.deref.result.now w.pile-tables.result.now (Ok w.in_ok-version-in-None.version) c.args.out.now w.search.new.out (sym w.in-None.ensures.item) s.geometry_is w.deref.ensures.value tables_are (w.in_ok-version-in-None.ensures.seen image told) in
+          let answer = given-seen v image c.args.key.now w.geometry.result.now w.deref.result.now w.pile-tables.result.now (Ok w.in_ok-version-in-None.version) c.args.out.now w.search.new.out (sym w.in-None.ensures.item) w.geometry.ensures.geometry w.deref.ensures.value tables_are (w.in_ok-version-in-None.ensures.seen image told) in
           let at = answers-seen (seen_of v image c.args.key.now) w.in_ok-version-in-None.version c.args.out.now w.search.new.out answer in
           rw (w.out-is, c.value_len.ensures, w.version-is) at
     ]
@@ -97,4 +97,4 @@ returns-in_err-version-in-None-clause-damaged g c = λ b is.
     let was : IsErrOf c.search.result (Damaged b) = search rules in
     let tables_are = c.pile-tables.ensures ∙ ap (λ (t : Trie). (node_at t root).tables) c.trie.ensures.nodes in
     pile-stops s.manifest s.log s.memory s.extents (vec_len s.filters) s.writes (s.kept c.requires.up) _ c.args.key.now b (c.search.ensures.damaged b was)
-    (subst (λ h. IsBucketOf h (root_pile s.manifest.manifest.trie) b) s.geometry_is (subst (λ xs. IsBucketOf s.geometry xs b) tables_are (c.search.ensures.damaged_block b was)))
+    (subst (λ h. IsBucketOf h (root_pile s.manifest.manifest.trie) b) c.geometry.ensures.geometry (subst (λ xs. IsBucketOf c.geometry.result.now xs b) tables_are (c.search.ensures.damaged_block b was)))

@@ -1,7 +1,6 @@
-use Rattle.std.proofs.Common.{rules, ◌≡◌, ap, sym, subst, ◌∙◌, true, false, [], ◌∷◌, Ok, IsErrOf, arith}
+use Rattle.std.proofs.Common.{rules, ◌≡◌, refl, ap, sym, subst, ◌∙◌, true, false, [], ◌∷◌, Ok, arith}
 use Rattle.lt_item.specs.Views.{item_of}
 use Rattle.lt_terms.specs.Items.{item_cost}
-use Rattle.lt_store.specs.declared.faults.WriteFault.TheVariants as faults
 use Rattle.lt_store.specs.Going.{Goes, appended}
 use Rattle.lt_store.specs.Flushing.{IsFlushed}
 use Rattle.lt_store.specs.Open.{StoreView}
@@ -10,22 +9,13 @@ use Rattle.lt_store.specs.Taking.{is_due, readied}
 use Rattle.lt_store.specs.View.{view_of}
 use Rattle.lt_store.proofs.GoLaws.{goes-none, goes-stays, goes-append}
 use Rattle.lt_store.proofs.RootedLaws.{rooted-none, rooted-joins}
-use Rattle.lt_store.proofs.TakeLaws.{full-alike}
+use Rattle.lt_store.proofs.TakeLaws.{full-alike, no-memory-up}
 use Rattle.lt_store.proofs.WholeLaws.{whole-behind, whole-none}
 use Rattle.lt_store.proofs.store.Store.write.Goals as goal
 use Rattle.std.proofs.lemmas.Bool.{true_from_ne_false}
 
 pub returns-then-self-clause-taken : goal.returns-then-self-clause-taken
 returns-then-self-clause-taken g c = λ d o. goes-none (view_of c.args.self.now) d (g.D.Device.state c.args.device.now) o
-
-pub returns-in_err-flush_due-clause-refused : goal.returns-in_err-flush_due-clause-refused
-returns-in_err-flush_due-clause-refused g c = λ none d o.
-    let v : StoreView = view_of c.args.self.now in
-    let w : StoreView = view_of c.commit_full.new.self in
-    let went = c.in_ok-commit_full.ensures.goes d o in
-    let was : IsErrOf c.from_residual-in_err-flush_due.result faults.NoMemory → IsErrOf c.flush_due.result faults.NoMemory = search rules in
-    goes-stays v [] w (view_of c.flush_due.new.self) d (g.D.Device.state c.args.device.now) (g.D.Device.state c.commit_full.new.device) (g.D.Device.state c.flush_due.new.device) went
-    (c.flush_due.ensures.pending_again (was none)) (c.flush_due.ensures.opened_again (was none) _ went.opened) (c.flush_due.ensures.stays _ went.opened)
 
 pub returns-then-self-clause-whole : goal.returns-then-self-clause-whole
 returns-then-self-clause-whole g c = λ d o. whole-none (view_of c.args.self.now) d (g.D.Device.state c.args.device.now) o
@@ -68,63 +58,123 @@ returns-in-Some-clause-taken g c = λ d o.
     goes-stays v [] (view_of c.commit_full.new.self) (view_of c.flush_due.new.self) d (g.D.Device.state c.args.device.now) (g.D.Device.state c.commit_full.new.device) (g.D.Device.state c.flush_due.new.device) went
     (c.in_ok-flush_due.ensures.pending (search rules)) (c.in_ok-flush_due.ensures.opened (search rules) _ went.opened) (c.in_ok-flush_due.ensures.stays _ went.opened)
 
-pub returns-in-Some-clause-full_images : goal.returns-in-Some-clause-full_images
-returns-in-Some-clause-full_images g c = λ needed free same d o.
+pub returns-then-self-clause-while_rooted : goal.returns-then-self-clause-while_rooted
+returns-then-self-clause-while_rooted g c =
+    record {
+      rooted = λ d o. rooted-none (view_of c.args.self.now) d (g.D.Device.state c.args.device.now) o;
+      flushed = search rules;
+      full_same = search rules;
+      full_quiet = search rules;
+      count = refl;
+      undamaged = search rules;
+    }
+
+pub returns-in_err-flush_due-clause-writes : goal.returns-in_err-flush_due-clause-writes
+returns-in_err-flush_due-clause-writes g c =
     let v : StoreView = view_of c.args.self.now in
+    let ready : view_of c.commit_full.new.self ≡ readied v (item_cost (item_of c.args.item.now)) = c.in_ok-commit_full.ensures.ready ∙ ap (readied v) c.cost.ensures in
     let w : StoreView = view_of c.commit_full.new.self in
-    let went = c.in_ok-commit_full.ensures.goes d o in
-    let rest : w ≡ record v { log = w.log } = c.in_ok-commit_full.ensures.rest in
-    let extents : w.named.manifest.header.extents ≡ v.named.manifest.header.extents = ap (λ (z : StoreView). z.named.manifest.header.extents) rest in
-    let writes : w.writes ≡ v.writes = ap (λ (z : StoreView). z.writes) rest in
-    let (images, few) = c.in_ok-flush_due.ensures.full_images c.in-Some.field-0 (ap Ok c.in-Some.is) _ went.opened in
-    ((λ left may. full-alike (IsFullImage left) c.in-Some.field-0.needed c.in-Some.field-0.free needed free same (images left may)), omega (arith, few, extents, writes))
+    let up = no-memory-up c.flush_due.new.self.is_up c.flush_due.result c.in_err-flush_due.field-0.0 c.in_err-flush_due.was c.flush_due.ensures.up in
+    record {
+      unchanged = search rules;
+      not_due = search rules;
+      memory = λ none. true_from_ne_false _ (λ due. absurd (let ok = (c.flush_due.ensures.not_due (subst (λ (z : StoreView). is_due z ≡ false) (sym ready) due)).0 in let err = c.in_err-flush_due.was in cc));
+      at_once = search rules;
+      number = search rules;
+      same_number = search rules;
+      regions = search rules;
+      size = c.flush_due.ensures.calls.size ∙ c.commit_full.ensures.calls.size;
+      later = omega (arith, c.flush_due.ensures.calls.later, c.commit_full.ensures.calls.later);
+      cause = search rules;
+      refused = λ none d o.
+          let went = c.in_ok-commit_full.ensures.goes d o in
+          goes-stays v [] w (view_of c.flush_due.new.self) d (g.D.Device.state c.args.device.now) (g.D.Device.state c.commit_full.new.device) (g.D.Device.state c.flush_due.new.device) went (c.flush_due.ensures.pending (up (search rules))) (c.flush_due.ensures.opened (up (search rules)) _ went.opened) (c.flush_due.ensures.stays _ went.opened);
+      full_images = search rules;
+    }
 
-pub returns-then-self-clause-rooted : goal.returns-then-self-clause-rooted
-returns-then-self-clause-rooted g c = λ d o. rooted-none (view_of c.args.self.now) d (g.D.Device.state c.args.device.now) o
+pub returns-in_err-flush_due-clause-while_rooted : goal.returns-in_err-flush_due-clause-while_rooted
+returns-in_err-flush_due-clause-while_rooted g c =
+    record {
+      rooted = λ d o. rooted-joins (g.D.Device.state c.args.device.now) (g.D.Device.state c.commit_full.new.device) (g.D.Device.state c.flush_due.new.device) (c.flush_due.ensures.rooted _ (c.in_ok-commit_full.ensures.goes d o).opened) (c.commit_full.ensures.rooted d o);
+      flushed = search rules;
+      full_same = search rules;
+      full_quiet = search rules;
+      count = c.flush_due.ensures.calls.count ∙ c.commit_full.ensures.calls.count;
+      undamaged = search rules;
+    }
 
-pub returns-in_err-flush_due-clause-rooted : goal.returns-in_err-flush_due-clause-rooted
-returns-in_err-flush_due-clause-rooted g c = λ d o.
-    let went = c.in_ok-commit_full.ensures.goes d o in
-    rooted-joins (g.D.Device.state c.args.device.now) (g.D.Device.state c.commit_full.new.device) (g.D.Device.state c.flush_due.new.device) (c.flush_due.ensures.rooted _ went.opened) (c.commit_full.ensures.rooted d o)
-
-pub returns-in-None-clause-rooted : goal.returns-in-None-clause-rooted
-returns-in-None-clause-rooted g c = λ d o.
-    let went = c.in_ok-commit_full.ensures.goes d o in
-    rooted-joins (g.D.Device.state c.args.device.now) (g.D.Device.state c.commit_full.new.device) (g.D.Device.state c.flush_due.new.device) (c.flush_due.ensures.rooted _ went.opened) (c.commit_full.ensures.rooted d o)
-
-pub returns-in-Some-clause-rooted : goal.returns-in-Some-clause-rooted
-returns-in-Some-clause-rooted g c = λ d o.
-    let went = c.in_ok-commit_full.ensures.goes d o in
-    rooted-joins (g.D.Device.state c.args.device.now) (g.D.Device.state c.commit_full.new.device) (g.D.Device.state c.flush_due.new.device) (c.flush_due.ensures.rooted _ went.opened) (c.commit_full.ensures.rooted d o)
-
-pub returns-in-None-clause-not_due : goal.returns-in-None-clause-not_due
-returns-in-None-clause-not_due g c = λ due is.
+pub returns-in-None-clause-writes : goal.returns-in-None-clause-writes
+returns-in-None-clause-writes g c =
     let v : StoreView = view_of c.args.self.now in
     let ready : view_of c.commit_full.new.self ≡ readied v (item_cost (item_of c.args.item.now)) = c.in_ok-commit_full.ensures.ready ∙ ap (readied v) c.cost.ensures in
-    let stays = c.flush_due.ensures.not_due (subst (λ (z : StoreView). is_due z ≡ false) (sym ready) due) in
-    c.append.ensures ∙ ap (λ (z : StoreView). appended z (item_of c.args.item.now)) (stays.1 ∙ ready)
+    record {
+      unchanged = search rules;
+      not_due = λ due is.
+          let stays = c.flush_due.ensures.not_due (subst (λ (z : StoreView). is_due z ≡ false) (sym ready) due) in
+          c.append.ensures ∙ ap (λ (z : StoreView). appended z (item_of c.args.item.now)) (stays.1 ∙ ready);
+      memory = search rules;
+      at_once = search rules;
+      number = search rules;
+      same_number = search rules;
+      regions = search rules;
+      size = c.flush_due.ensures.calls.size ∙ c.commit_full.ensures.calls.size;
+      later = omega (arith, c.flush_due.ensures.calls.later, c.commit_full.ensures.calls.later);
+      cause = search rules;
+      refused = search rules;
+      full_images = search rules;
+    }
 
-pub returns-in-None-clause-flushed : goal.returns-in-None-clause-flushed
-returns-in-None-clause-flushed g c = λ due is d o.
-    let v : StoreView = view_of c.args.self.now in
-    let s = g.D.Device.state c.flush_due.new.device in
-    let ready : view_of c.commit_full.new.self ≡ readied v (item_cost (item_of c.args.item.now)) = c.in_ok-commit_full.ensures.ready ∙ ap (readied v) c.cost.ensures in
-    let went = c.in_ok-commit_full.ensures.goes d o in
-    let flushed = c.flush_due.ensures.flushed (subst (λ (z : StoreView). is_due z ≡ true) (sym ready) due) (search rules) _ went.opened in
-    (view_of c.flush_due.new.self, subst (λ (z : StoreView). IsFlushed z (view_of c.flush_due.new.self) s) ready flushed, c.append.ensures)
-
-pub returns-in-Some-clause-full_same : goal.returns-in-Some-clause-full_same
-returns-in-Some-clause-full_same g c = λ needed free is.
-    let v : StoreView = view_of c.args.self.now in
-    let ready : view_of c.commit_full.new.self ≡ readied v (item_cost (item_of c.args.item.now)) = c.in_ok-commit_full.ensures.ready ∙ ap (readied v) c.cost.ensures in
-    (c.in_ok-flush_due.ensures.short c.in-Some.field-0 (ap Ok c.in-Some.is)).0 ∙ ready
-
-pub returns-in-Some-clause-full_quiet : goal.returns-in-Some-clause-full_quiet
-returns-in-Some-clause-full_quiet g c = λ needed free is idle. (c.in_ok-flush_due.ensures.short c.in-Some.field-0 (ap Ok c.in-Some.is)).1 ∙ c.commit_full.ensures.idle idle
-
-pub returns-in_err-flush_due-clause-memory : goal.returns-in_err-flush_due-clause-memory
-returns-in_err-flush_due-clause-memory g c = λ none.
+pub returns-in-None-clause-while_rooted : goal.returns-in-None-clause-while_rooted
+returns-in-None-clause-while_rooted g c =
     let v : StoreView = view_of c.args.self.now in
     let ready : view_of c.commit_full.new.self ≡ readied v (item_cost (item_of c.args.item.now)) = c.in_ok-commit_full.ensures.ready ∙ ap (readied v) c.cost.ensures in
-    let was : IsErrOf c.from_residual-in_err-flush_due.result faults.NoMemory → IsErrOf c.flush_due.result faults.NoMemory = search rules in
-    true_from_ne_false _ (λ due. absurd (let ok = (c.flush_due.ensures.not_due (subst (λ (z : StoreView). is_due z ≡ false) (sym ready) due)).0 in let err = was none in cc))
+    record {
+      rooted = λ d o. rooted-joins (g.D.Device.state c.args.device.now) (g.D.Device.state c.commit_full.new.device) (g.D.Device.state c.flush_due.new.device) (c.flush_due.ensures.rooted _ (c.in_ok-commit_full.ensures.goes d o).opened) (c.commit_full.ensures.rooted d o);
+      flushed = λ due is d o.
+          let went = c.in_ok-commit_full.ensures.goes d o in
+          let flushed = c.flush_due.ensures.flushed (subst (λ (z : StoreView). is_due z ≡ true) (sym ready) due) (search rules) _ went.opened in
+          (view_of c.flush_due.new.self, subst (λ (z : StoreView). IsFlushed z (view_of c.flush_due.new.self) (g.D.Device.state c.flush_due.new.device)) ready flushed, c.append.ensures);
+      full_same = search rules;
+      full_quiet = search rules;
+      count = c.flush_due.ensures.calls.count ∙ c.commit_full.ensures.calls.count;
+      undamaged = search rules;
+    }
+
+pub returns-in-Some-clause-writes : goal.returns-in-Some-clause-writes
+returns-in-Some-clause-writes g c =
+    let v : StoreView = view_of c.args.self.now in
+    let ready : view_of c.commit_full.new.self ≡ readied v (item_cost (item_of c.args.item.now)) = c.in_ok-commit_full.ensures.ready ∙ ap (readied v) c.cost.ensures in
+    let w : StoreView = view_of c.commit_full.new.self in
+    record {
+      unchanged = search rules;
+      not_due = search rules;
+      memory = search rules;
+      at_once = search rules;
+      number = search rules;
+      same_number = search rules;
+      regions = search rules;
+      size = c.flush_due.ensures.calls.size ∙ c.commit_full.ensures.calls.size;
+      later = omega (arith, c.flush_due.ensures.calls.later, c.commit_full.ensures.calls.later);
+      cause = search rules;
+      refused = search rules;
+      full_images = λ needed free same d o.
+          let went = c.in_ok-commit_full.ensures.goes d o in
+          let rest : w ≡ record v { log = w.log } = c.in_ok-commit_full.ensures.rest in
+          let extents : w.named.manifest.header.extents ≡ v.named.manifest.header.extents = ap (λ (z : StoreView). z.named.manifest.header.extents) rest in
+          let writes : w.writes ≡ v.writes = ap (λ (z : StoreView). z.writes) rest in
+          let (images, few) = c.in_ok-flush_due.ensures.full_images c.in-Some.field-0 (ap Ok c.in-Some.is) _ went.opened in
+          ((λ left may. full-alike (IsFullImage left) c.in-Some.field-0.needed c.in-Some.field-0.free needed free same (images left may)), omega (arith, few, extents, writes));
+    }
+
+pub returns-in-Some-clause-while_rooted : goal.returns-in-Some-clause-while_rooted
+returns-in-Some-clause-while_rooted g c =
+    let v : StoreView = view_of c.args.self.now in
+    let ready : view_of c.commit_full.new.self ≡ readied v (item_cost (item_of c.args.item.now)) = c.in_ok-commit_full.ensures.ready ∙ ap (readied v) c.cost.ensures in
+    record {
+      rooted = λ d o. rooted-joins (g.D.Device.state c.args.device.now) (g.D.Device.state c.commit_full.new.device) (g.D.Device.state c.flush_due.new.device) (c.flush_due.ensures.rooted _ (c.in_ok-commit_full.ensures.goes d o).opened) (c.commit_full.ensures.rooted d o);
+      flushed = search rules;
+      full_same = λ needed free is. (c.in_ok-flush_due.ensures.short c.in-Some.field-0 (ap Ok c.in-Some.is)).0 ∙ ready;
+      full_quiet = λ needed free is idle. (c.in_ok-flush_due.ensures.short c.in-Some.field-0 (ap Ok c.in-Some.is)).1 ∙ c.commit_full.ensures.idle idle;
+      count = c.flush_due.ensures.calls.count ∙ c.commit_full.ensures.calls.count;
+      undamaged = search rules;
+    }
