@@ -3,6 +3,8 @@ use Rattle.lt_language.specs.Machine.{State}
 use Rattle.std.proofs.lemmas.Result.{err_from_is_err_and}
 use Rattle.lt_store.specs.declared.faults.WriteFault.TheVariants as faults
 use Rattle.lt_store.specs.Open.{IsOpen}
+use Rattle.std.proofs.lemmas.Option.{IfSome_then}
+use Rattle.lt_store.specs.Acting.{write_of}
 use Rattle.lt_store.specs.View.{view_of}
 use Rattle.lt_serve.specs.Acting.{Answers, Lost}
 use Rattle.lt_serve.specs.Faults.{round_fault_of}
@@ -18,7 +20,7 @@ returns-in_err-outcome-clause-err g c =
     subst (λ r. IfErr r (λ f. (durable : State) → IsOpen (view_of c.args.store.now) durable device → Lost (view_of c.args.store.now) durable (round_fault_of f) device after)) (sym fault.1)
     (λ durable opened. subst (λ f. Lost (view_of c.args.store.now) durable (round_fault_of f) device after) (sym fault.2)
     (lost-event (view_of c.args.store.now) (view_of c.act.new.self) durable c.in_err-outcome.field-0.0 c.act.new.self.is_up device after
-    (c.in_err-outcome.ensures.broken durable opened) (c.act.ensures.rooted durable opened) (λ up. c.in_err-outcome.ensures.goes_on up durable opened)
+    (c.in_err-outcome.ensures.broken durable opened) (c.act.ensures.while_rooted.rooted durable opened) (λ up. c.in_err-outcome.ensures.goes_on up durable opened)
     (λ down. search rules) (λ b is. c.act.ensures.sound b durable opened (search rules))))
 
 pub returns-in_err-outcome-clause-damaged : goal.returns-in_err-outcome-clause-damaged
@@ -40,4 +42,4 @@ returns-clause-ok g c = λ command durable is opened.
     let out = c.in_ok-outcome in
     subst (λ taken. Answers (view_of c.args.store.now) durable command taken c.args.out.now c.add_outcome.new.out (view_of c.act.new.self) (g.D.Device.state c.args.device.now) (g.D.Device.state c.act.new.device)) (sym c.is_taken.ensures)
     (answers-event (view_of c.args.store.now) (view_of c.act.new.self) durable c.args.event command out.outcome c.act.new.out c.found.result.now c.args.out.now c.add_outcome.new.out _ _ is
-    (out.ensures.step durable opened) (out.ensures.goes durable opened) (c.act.ensures.rooted durable opened) (λ asks. (c.act.ensures.asked asks).1) (λ n f same idle. ap g.D.Device.state (c.act.ensures.full_quiet n f (c.in_ok-outcome.was ∙ ap Ok same) idle)) (λ same. ap g.D.Device.state (c.act.ensures.unchanged (c.in_ok-outcome.was ∙ ap Ok same)).1) c.found.ensures.front c.found.ensures.value c.add_outcome.ensures.short c.requires.room c.add_outcome.ensures.text)
+    (out.ensures.step durable opened) (out.ensures.goes durable opened) (c.act.ensures.while_rooted.rooted durable opened) (λ asks. (c.act.ensures.asked asks).1) (λ n f same idle. ap g.D.Device.state (c.act.ensures.while_rooted.full_quiet n f (c.in_ok-outcome.was ∙ ap Ok same) idle)) (IfSome_then (write_of c.args.event) c.act.ensures.writes (λ item w. λ same. ap g.D.Device.state (w.unchanged (c.in_ok-outcome.was ∙ ap Ok same)).1)) c.found.ensures.front c.found.ensures.value c.add_outcome.ensures.short c.requires.room c.add_outcome.ensures.text)
