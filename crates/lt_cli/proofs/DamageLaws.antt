@@ -6,9 +6,9 @@ use Rattle.lt_device.specs.State as told
 use Rattle.lt_io.specs.Sink.{Gains, GainsFront}
 use Rattle.lt_io.proofs.Flows.{Gains-none, Gains-more, GainsFront-more}
 use Rattle.lt_serve.specs.Serving.{GainsSome}
-use Rattle.lt_store.specs.Damage.{StopsGet, StopsOpening}
-use Rattle.lt_cli.specs.Promise.{FoundDamage}
-use Rattle.lt_cli.specs.Telling.{Tells, damage_line}
+use Rattle.lt_serve.specs.Promise.{FoundByGet}
+use Rattle.lt_store.specs.Promise.{StopsOpening}
+use Rattle.lt_cli.specs.Promise.{FoundDamage, Tells, damage_line}
 
 module _ (stands0 stands1 stands : List ℕ → Type 0) (faults0 faults1 faults : ℕ) (line shown : List ℕ) (gained : Gains stands0 stands1 shown) (later : faults0 ≤ faults1) where
   -- a front of the line was told behind what was shown
@@ -24,7 +24,7 @@ module _ (stands0 stands1 stands : List ℕ → Type 0) (faults0 faults1 faults 
 -- where serving stopped at a damaged block, it is found
 pub found-damage : (left0 left : Option (List ℕ)) (stands0 stands1 stands : List ℕ → Type 0) (faults0 faults1 faults : ℕ) (old new : told.State) (block : ℕ) (r : Result (Unit {0}) Failed) → GainsSome stands0 stands1 → faults0 ≤ faults1
     → OnOk r (Gains stands1 stands (damage_line block)) → OnErr r (GainsFront stands1 stands (damage_line block)) → HasCause faults1 faults r
-    → (StopsOpening old block × (new ≡ old) × (left ≡ left0) × (stands1 ≡ stands0)) ⊎ StopsGet new block → FoundDamage left0 left stands0 stands faults0 faults old new
+    → (StopsOpening old block × (new ≡ old) × (left ≡ left0) × (stands1 ≡ stands0)) ⊎ FoundByGet old block new → FoundDamage left0 left stands0 stands faults0 faults old new
 found-damage left0 left stands0 stands1 stands faults0 faults1 faults old new block r some later all front cause (inl opening) =
     let gained : Gains stands0 stands1 [] = subst (λ (s : List ℕ → Type 0). Gains stands0 s []) (sym opening.3) (Gains-none stands0) in
     record {

@@ -4,7 +4,7 @@ use Rattle.std.specs.Prelude.{codes}
 use Rattle.lt_language.specs.Lines.{line_feed}
 use Rattle.lt_language.specs.Replies.{spaced}
 use Rattle.lt_io.specs.Sink.{Gains, GainsFront}
-use Rattle.lt_cli.specs.Telling.{damage_line, small_line}
+use Rattle.lt_cli.specs.Promise.{damage_line, small_line}
 use Rattle.lt_io.proofs.Flows.{Gains-more, GainsFront-more, GainsFront-longer}
 
 -- the sink stopped in a part, behind the first ones

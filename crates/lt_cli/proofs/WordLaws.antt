@@ -10,7 +10,7 @@ use Rattle.std.specs.declared.alloc.Global.{Global}
 use Rattle.lt_format.specs.Layout.{is_geometry}
 use Rattle.lt_cli.specs.declared.words.Task.{Task}
 use Rattle.lt_cli.specs.declared.words.Task.TheVariants.{Run, Init}
-use Rattle.lt_cli.specs.Words.{AreSizes, IsInit, Means, MeansSome}
+use Rattle.lt_cli.specs.Promise.{AreSizes, IsInit, Means, MeansSome}
 use lib.Pointwise.{pointwise}
 
 -- a word that spells a number is read as that number

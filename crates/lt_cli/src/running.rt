@@ -3,10 +3,9 @@
 ghost use Rattle.std.specs.Prelude.{◌≡◌, ℕ, ◌+◌, ◌^◌, ◌≤◌};
 ghost use Rattle.lt_terms.specs.Causes.{Rose, RoseBy};
 ghost use Rattle.lt_language.specs.Machine.{State};
-ghost use Rattle.lt_serve.specs.Damage.{FailsToOpen};
-ghost use Rattle.lt_store.specs.Open.{Rests};
-ghost use Rattle.lt_cli.specs.Promise.{Ended, FoundDamage, Unopened};
-ghost use Rattle.lt_cli.specs.Statuses.{IsRunEnd};
+ghost use Rattle.lt_serve.specs.Promise.{FailsToOpen};
+ghost use Rattle.lt_store.specs.Promise.{Rests};
+ghost use Rattle.lt_cli.specs.Promise.{Ended, FoundDamage, Unopened, IsRunEnd};
 
 use crate::status::Status;
 use crate::telling::tell_damage;
@@ -23,11 +22,17 @@ pub(super) fn run<S: Source, K: Sink, D: Device>(
     device: &mut D,
 ) -> Status
     ensures over { (before : State) (r : Rests before (D.state device.old))
-        → Ended r.rest.named.manifest.header.extents before result (S.left source.old) (S.left source.new) (K.stands sink.old) (K.stands sink.new) (K.faults sink.old) (K.faults sink.new) (D.state device.old) (D.state device.new) }
+        → Ended r.rest.named.manifest.header.extents before result (S.left source.old) (S.left source.new)
+        (K.stands sink.old) (K.stands sink.new) (K.faults sink.old) (K.faults sink.new) (D.state device.old)
+        (D.state device.new) }
     ensures end { IsRunEnd result }
-    ensures damaged { result ≡ Status.Damaged → FoundDamage (S.left source.old) (S.left source.new) (K.stands sink.old) (K.stands sink.new) (K.faults sink.old) (K.faults sink.new) (D.state device.old) (D.state device.new) }
+    ensures damaged { result ≡ Status.Damaged
+        → FoundDamage (S.left source.old) (S.left source.new) (K.stands sink.old) (K.stands sink.new)
+        (K.faults sink.old) (K.faults sink.new) (D.state device.old) (D.state device.new) }
     ensures unopened { (b : ℕ) → FailsToOpen (D.state device.old) b
-        → Unopened b result (K.stands sink.old) (K.stands sink.new) (K.faults sink.old) (K.faults sink.new) × (D.state device.new ≡ D.state device.old) × (source.new ≡ source.old) × ((result ≡ Status.Damaged → ⊥) → sink.new ≡ sink.old) }
+        → Unopened b result (K.stands sink.old) (K.stands sink.new) (K.faults sink.old) (K.faults sink.new)
+        × (D.state device.new ≡ D.state device.old) × (source.new ≡ source.old) × ((result ≡ Status.Damaged
+        → ⊥) → sink.new ≡ sink.old) }
     ensures source { result ≡ Status.SourceFault → Rose (S.faults source.old) (S.faults source.new) }
     ensures sink { result ≡ Status.SinkFault → Rose (K.faults sink.old) (K.faults sink.new) }
     ensures device { result ≡ Status.DeviceFault → Rose (D.faults device.old) (D.faults device.new) }

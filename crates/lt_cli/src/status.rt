@@ -22,7 +22,7 @@ pub enum Status {
 }
 
 impl Status {
-    ghost use Rattle.lt_cli.specs.Statuses.{code_of};
+    ghost use Rattle.lt_cli.specs.Promise.{code_of};
 
     /// The exit status of the program.
     pub fn code(&self) -> u8

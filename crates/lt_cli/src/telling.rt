@@ -4,7 +4,7 @@ ghost use Rattle.std.specs.Prelude.{◌≡◌, ℕ, OnErr, OnOk};
 ghost use Rattle.lt_terms.specs.Causes.{HasCause};
 ghost use Rattle.lt_language.specs.Replies.{spaced};
 ghost use Rattle.lt_io.specs.Sink.{Gains, GainsFront};
-ghost use Rattle.lt_cli.specs.Telling.{damage_line, small_line};
+ghost use Rattle.lt_cli.specs.Promise.{damage_line, small_line};
 
 use itoa::Buffer;
 use lt_io::{Sink, write_all};

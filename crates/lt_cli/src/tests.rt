@@ -21,6 +21,18 @@ fn owned(alloc: Global, pieces: &[&str]) -> Result<Vec<Vec<u8>>, NoMemory> {
     Ok(owned)
 }
 
+/// The bytes of some texts, each repeated so many times, and a line feed.
+fn line(alloc: Global, parts: &[(&str, usize)]) -> Result<Vec<u8>, NoMemory> {
+    let mut line = Vec::new(alloc);
+    for (text, times) in parts {
+        for _ in 0..*times {
+            line.extend_from_slice(text.as_bytes())?;
+        }
+    }
+    line.push(b'\n')?;
+    Ok(line)
+}
+
 /// Runs over any source, sink and device. Answers the status.
 fn run_over<S: Source, K: Sink, D: Device>(
     alloc: Global,
@@ -37,16 +49,25 @@ fn run_over<S: Source, K: Sink, D: Device>(
 }
 
 /// Runs over steady ends. Answers what was shown, and the status.
+fn run_pieces<D: Device>(
+    alloc: Global,
+    device: &mut D,
+    words: &str,
+    pieces: Vec<Vec<u8>>,
+) -> Result<(Vec<u8>, u8), NoMemory> {
+    let mut source = SteadySource::new(pieces);
+    let mut sink = MemSink::new(alloc, 65_536, 4096, Vec::new(alloc))?;
+    let status = run_over(alloc, words, &mut source, &mut sink, device)?;
+    Ok((sink.taken().to_vec(alloc)?, status))
+}
+
 fn run_words<D: Device>(
     alloc: Global,
     device: &mut D,
     words: &str,
     pieces: &[&str],
 ) -> Result<(Vec<u8>, u8), NoMemory> {
-    let mut source = SteadySource::new(owned(alloc, pieces)?);
-    let mut sink = MemSink::new(alloc, 65_536, 4096, Vec::new(alloc))?;
-    let status = run_over(alloc, words, &mut source, &mut sink, device)?;
-    Ok((sink.taken().to_vec(alloc)?, status))
+    run_pieces(alloc, device, words, owned(alloc, pieces)?)
 }
 
 fn run<D: Device>(
@@ -76,17 +97,22 @@ fn run_failing<D: Device>(
     Ok((sink.taken().to_vec(alloc)?, status))
 }
 
-/// A device in memory with a store of 1 extent, 2 levels and 1 slot.
-fn made(alloc: Global) -> Result<MemDevice, NoMemory> {
-    let mut device = MemDevice::new(alloc, BLOCKS, CALLS, Vec::new(alloc), None)?;
-    run_words(alloc, &mut device, "init 1 2 1", &[])?;
+/// A device in memory with an empty store.
+fn made_by(alloc: Global, words: &str, blocks: u64) -> Result<MemDevice, NoMemory> {
+    let mut device = MemDevice::new(alloc, blocks, CALLS, Vec::new(alloc), None)?;
+    run_words(alloc, &mut device, words, &[])?;
     Ok(device)
 }
 
-/// The same after two puts, of which the first was flushed.
-fn made_with_two(alloc: Global) -> Result<MemDevice, NoMemory> {
+/// One of 1 extent, 2 levels and 1 slot.
+fn made(alloc: Global) -> Result<MemDevice, NoMemory> {
+    made_by(alloc, "init 1 2 1", BLOCKS)
+}
+
+/// The same after two puts, of which the first was flushed, and one that was refused.
+fn made_full(alloc: Global) -> Result<MemDevice, NoMemory> {
     let mut device = made(alloc)?;
-    run(alloc, &mut device, &["put a 1\n", "put b 2\n"])?;
+    run(alloc, &mut device, &["put a 1\n", "put b 2\n", "put c 3\n"])?;
     Ok(device)
 }
 
@@ -97,20 +123,23 @@ fn opening_reads(alloc: Global, device: &MemDevice) -> Result<u64, NoMemory> {
     Ok(copy.reads())
 }
 
-/// Puts bytes into a block, from this place on.
-fn spoil<D: Device>(
+/// Puts bytes into a block of a device at rest, from this place on.
+fn spoil(
     alloc: Global,
-    device: &mut D,
+    device: &mut MemDevice,
     block: u64,
     at: usize,
     bytes: &[u8],
 ) -> Result<(), NoMemory> {
     let mut page = Page::new(alloc)?;
-    if block < device.blocks() && at < Page::LEN && bytes.len() <= Page::LEN - at {
-        let _ = device.read(block, &mut page);
+    if block < device.blocks()
+        && device.is_clean()
+        && at < Page::LEN
+        && bytes.len() <= Page::LEN - at
+    {
+        page.copy_from(device.page(block));
         page.fill_from(at, bytes);
-        let _ = device.write(block, &page);
-        let _ = device.sync();
+        device.patch(block, &page);
     }
     Ok(())
 }
@@ -118,8 +147,10 @@ fn spoil<D: Device>(
 #[test]
 fn lines_are_answered_by_a_store(rt: HostRuntime) -> Result<(), NoMemory> {
     let alloc = rt.alloc();
-    let rows: [(&[&str], &str); 5] = [
+    let rows: [(&[&str], &str); 7] = [
+        (&[], ""),
         (&["put k v\nget k\n"], "OK\nVALUE v\n"),
+        (&["put k \nget k\n"], "OK\nVALUE \n"),
         (
             &["put k 1\nput k 2\nget k\ndelete k\nget k\ndelete k\nget k\n"],
             "OK\nOK\nVALUE 2\nOK\nNONE\nOK\nNONE\n",
@@ -140,6 +171,55 @@ fn lines_are_answered_by_a_store(rt: HostRuntime) -> Result<(), NoMemory> {
         assert!(rt; shows(&answer, "", 0));
         let (shown, status) = run(alloc, &mut device, pieces)?;
         assert_eq!(rt; shown.as_slice(), want.as_bytes(), "of {pieces:?}");
+        assert_eq!(rt; status, 0);
+    }
+    Ok(())
+}
+
+/// Lines, as texts that are each repeated so many times, and their replies one after another on an
+/// empty store.
+const LINES: [(&[(&str, usize)], &str); 14] = [
+    (&[("put k v", 1)], "OK\n"),
+    (&[("get k", 1)], "VALUE v\n"),
+    (&[("put k ", 1)], "OK\n"),
+    (&[("get k", 1)], "VALUE \n"),
+    (&[("put k 1", 1)], "OK\n"),
+    (&[("put k 2", 1)], "OK\n"),
+    (&[("delete k", 1)], "OK\n"),
+    (&[("delete k", 1)], "OK\n"),
+    (&[("get k", 1)], "NONE\n"),
+    // The longest key and the longest value, and one byte more of each.
+    (&[("put ", 1), ("k", 255), (" ", 1), ("v", 3000)], "OK\n"),
+    (&[("put ", 1), ("k", 256), (" v", 1)], "BAD key\n"),
+    (&[("put k ", 1), ("v", 3001)], "BAD value\n"),
+    // One byte more than the longest line.
+    (&[("get ", 1), ("k", 3257)], "BAD long\n"),
+    (&[("get k", 1)], "NONE\n"),
+];
+
+#[test]
+fn pieces_of_any_size_are_answered_alike(rt: HostRuntime) -> Result<(), NoMemory> {
+    let alloc = rt.alloc();
+    let mut want = Vec::new(alloc);
+    let mut all = Vec::new(alloc);
+    let mut lines = Vec::new(alloc);
+    for (parts, reply) in LINES {
+        want.extend_from_slice(reply.as_bytes())?;
+        let line = line(alloc, parts)?;
+        all.extend_from_slice(&line)?;
+        lines.push(line)?;
+    }
+    let mut bytes = Vec::new(alloc);
+    for byte in &all {
+        bytes.push(vec![in alloc; *byte]?)?;
+    }
+    let whole = vec![in alloc; all]?;
+    for pieces in Vec::from_array(alloc, [whole, lines, bytes])? {
+        let mut device = Steady::new(alloc, 1384)?;
+        run_words(alloc, &mut device, "init 4 2 64", &[])?;
+        let number = pieces.len();
+        let (shown, status) = run_pieces(alloc, &mut device, "run", pieces)?;
+        assert_eq!(rt; shown.as_slice(), want.as_slice(), "in {number} pieces");
         assert_eq!(rt; status, 0);
     }
     Ok(())
@@ -215,8 +295,7 @@ fn a_store_is_made_where_there_is_room_and_nothing_else(rt: HostRuntime) -> Resu
 #[test]
 fn a_write_under_way_is_there_whole_or_not_at_all(rt: HostRuntime) -> Result<(), NoMemory> {
     let alloc = rt.alloc();
-    let mut first = MemDevice::new(alloc, 1384, CALLS, Vec::new(alloc), None)?;
-    run_words(alloc, &mut first, "init 4 2 64", &[])?;
+    let first = made_by(alloc, "init 4 2 64", 1384)?;
     // Each put writes its content, syncs, writes its gate and syncs.
     let opening = opening_reads(alloc, &first)?;
     let stop = Some(opening.saturating_add(7));
@@ -236,52 +315,29 @@ fn a_write_under_way_is_there_whole_or_not_at_all(rt: HostRuntime) -> Result<(),
     Ok(())
 }
 
+/// A manifest with one write and one table in the root, which lies in extent 1.
+const TABLE_IN_EXTENT_1: [u8; 59] = [
+    1, 0, 0, 0, 0, 0, 0, 1, 0, 0, 0, 0, 0, 0, 0, 1, 0, 0, 0, 1, 0, 0, 0, 59, 0, 0, 0, 0, 0, 0, 0,
+    0, 0, 0, 0, 0, 0, 0, 0, 0, 0, 0, 0, 0, 0, 0, 0, 0, 0, 0, 1, 0, 0, 0, 0, 0, 0, 0, 1,
+];
+
 #[test]
-fn a_block_that_does_not_stand_is_named(rt: HostRuntime) -> Result<(), NoMemory> {
+fn a_manifest_that_does_not_stand_is_named(rt: HostRuntime) -> Result<(), NoMemory> {
     let alloc = rt.alloc();
-    // A manifest that names extent 1, where there is extent 0 alone.
+    // There is extent 0 alone.
     let mut device = made(alloc)?;
-    spoil(alloc, &mut device, 2, 16, &[0, 0, 0, 1, 0, 0, 0, 59])?;
-    spoil(
-        alloc,
-        &mut device,
-        2,
-        40,
-        &[0, 0, 0, 0, 0, 0, 0, 0, 0, 0, 1, 0, 0, 0, 0, 0, 0, 0, 1],
-    )?;
+    spoil(alloc, &mut device, 2, 0, &[0; Page::LEN])?;
+    spoil(alloc, &mut device, 2, 0, &TABLE_IN_EXTENT_1)?;
     let answer = run(alloc, &mut device, &["get a\n"])?;
     assert!(rt; shows(&answer, "DAMAGED 2\n", 5));
 
-    // A bucket that a get asks for.
-    let mut device = made_with_two(alloc)?;
-    spoil(alloc, &mut device, HOME_OF_A, 0, &[255; Page::LEN])?;
-    let answer = run(alloc, &mut device, &["get b\n", "get a\n", "get b\n"])?;
-    assert!(rt; shows(&answer, "VALUE 2\nDAMAGED 929\n", 5));
-    Ok(())
-}
-
-/// Copies a block, where both devices have it.
-fn copy<A: Device, B: Device>(
-    alloc: Global,
-    from: &mut A,
-    to: &mut B,
-    block: u64,
-) -> Result<(), NoMemory> {
-    let mut page = Page::new(alloc)?;
-    if block < from.blocks() && block < to.blocks() {
-        let _ = from.read(block, &mut page);
-        let _ = to.write(block, &page);
-    }
-    Ok(())
-}
-
-#[test]
-fn a_manifest_of_more_blocks_than_there_are_is_damaged(rt: HostRuntime) -> Result<(), NoMemory> {
-    let alloc = rt.alloc();
-    let mut whole = made(alloc)?;
-    let mut short = Steady::new(alloc, BLOCKS - 1)?;
-    for block in 0..3 {
-        copy(alloc, &mut whole, &mut short, block)?;
+    // A store of more blocks than the device has.
+    let whole = made(alloc)?;
+    let mut short = MemDevice::new(alloc, BLOCKS - 1, CALLS, Vec::new(alloc), None)?;
+    for block in 0..BLOCKS {
+        if block < whole.blocks() && block < short.blocks() && short.is_clean() {
+            short.patch(block, whole.page(block));
+        }
     }
     let answer = run(alloc, &mut short, &["get a\n"])?;
     assert!(rt; shows(&answer, "DAMAGED 2\n", 5));
@@ -289,15 +345,34 @@ fn a_manifest_of_more_blocks_than_there_are_is_damaged(rt: HostRuntime) -> Resul
 }
 
 #[test]
-fn a_read_that_fails_loses_nothing(rt: HostRuntime) -> Result<(), NoMemory> {
+fn replies_before_a_damaged_bucket_are_shown(rt: HostRuntime) -> Result<(), NoMemory> {
     let alloc = rt.alloc();
-    let device = made_with_two(alloc)?;
+    let rows: [(&str, &[u64], &str); 3] = [
+        ("get b\nget a\nget b\n", &[], "VALUE 2\nDAMAGED 929\n"),
+        // A sink that fails leaves the status.
+        ("get b\nget a\nget b\n", &[1], "VALUE 2\n"),
+        ("get a\n", &[1], "DAMAGED"),
+    ];
+    for (piece, failing, want) in rows {
+        let mut device = made_full(alloc)?;
+        spoil(alloc, &mut device, HOME_OF_A, 0, &[255; Page::LEN])?;
+        let failing = failing.to_vec(alloc)?;
+        let answer = run_failing(alloc, &mut device, &[piece], Vec::new(alloc), failing)?;
+        assert!(rt; shows(&answer, want, 5), "of {piece:?}");
+    }
+    Ok(())
+}
+
+#[test]
+fn replies_before_a_read_that_fails_are_shown(rt: HostRuntime) -> Result<(), NoMemory> {
+    let alloc = rt.alloc();
+    let device = made_full(alloc)?;
     let failing = vec![in alloc; opening_reads(alloc, &device)?]?;
     let mut failing = device.crash(alloc, &[], CALLS, failing, None)?;
-    let answer = run(alloc, &mut failing, &["get b\n", "get a\n"])?;
+    let answer = run(alloc, &mut failing, &["get b\nget a\n"])?;
     assert!(rt; shows(&answer, "VALUE 2\n", 4));
     let mut again = failing.crash(alloc, &[], CALLS, Vec::new(alloc), None)?;
-    let answer = run(alloc, &mut again, &["get b\n", "get a\n"])?;
+    let answer = run(alloc, &mut again, &["get b\nget a\n"])?;
     assert!(rt; shows(&answer, "VALUE 2\nVALUE 1\n", 0));
     Ok(())
 }
@@ -315,17 +390,15 @@ fn the_last_number_of_writes_is_a_limit(rt: HostRuntime) -> Result<(), NoMemory>
 #[test]
 fn a_source_or_a_sink_that_fails_ends_the_run(rt: HostRuntime) -> Result<(), NoMemory> {
     let alloc = rt.alloc();
-    let mut device = made(alloc)?;
-    let second = vec![in alloc; 1]?;
-    let answer = run_failing(alloc, &mut device, &["put a 1\n"], second, Vec::new(alloc))?;
-    assert!(rt; shows(&answer, "OK\n", 2));
-
-    let mut device = made(alloc)?;
-    let first = vec![in alloc; 0]?;
-    let answer = run_failing(alloc, &mut device, &["put a 1\n"], Vec::new(alloc), first)?;
-    assert!(rt; shows(&answer, "", 3));
-    let answer = run(alloc, &mut device, &["get a\n"])?;
-    assert!(rt; shows(&answer, "VALUE 1\n", 0));
+    let rows: [(&[u64], &[u64], &str, u8); 2] = [(&[1], &[], "OK\n", 2), (&[], &[0], "", 3)];
+    for (reads, writes, want, status) in rows {
+        let mut device = made_by(alloc, "init 4 2 64", 1384)?;
+        let (reads, writes) = (reads.to_vec(alloc)?, writes.to_vec(alloc)?);
+        let answer = run_failing(alloc, &mut device, &["put a 1\n"], reads, writes)?;
+        assert!(rt; shows(&answer, want, status));
+        let answer = run(alloc, &mut device, &["get a\n"])?;
+        assert!(rt; shows(&answer, "VALUE 1\n", 0));
+    }
     Ok(())
 }
 
@@ -340,8 +413,7 @@ const KEPT: [&str; 4] = [
 #[test]
 fn each_crash_keeps_what_was_acknowledged(rt: HostRuntime) -> Result<(), NoMemory> {
     let alloc = rt.alloc();
-    let mut first = MemDevice::new(alloc, BLOCKS + 65, CALLS, Vec::new(alloc), None)?;
-    run_words(alloc, &mut first, "init 2 2 1", &[])?;
+    let first = made_by(alloc, "init 2 2 1", BLOCKS + 65)?;
     // The second put and the third flush the one before.
     let pieces = ["put a 1\n", "put b 2\n", "put c 3\n"];
     for stop in 0..60 {

@@ -3,7 +3,7 @@
 ghost use Rattle.std.specs.Prelude.{◌≡◌, ℕ, ◌<◌, ◌≤◌, ◌^◌, ◌↔◌, Some, IsTrue};
 ghost use Rattle.std.specs.Fmt.{decimal};
 ghost use Rattle.lt_format.specs.Layout.{is_geometry};
-ghost use Rattle.lt_cli.specs.Words.{AreSizes, MeansSome};
+ghost use Rattle.lt_cli.specs.Promise.{AreSizes, MeansSome};
 
 use itoa::Buffer;
 
@@ -35,7 +35,8 @@ pub fn task_of(words: &[String]) -> Option<Task>
 
 /// The making of a store of these sizes, where they are within the limits.
 fn init_of(extents: u32, levels: u32, slots: u32) -> Option<Task>
-    ensures some { (task : Task) → result ≡ Some task → AreSizes extents levels slots × (task ≡ Task.Init extents levels slots) }
+    ensures some { (task : Task) → result ≡ Some task → AreSizes extents levels slots
+        × (task ≡ Task.Init extents levels slots) }
     ensures none { AreSizes extents levels slots → result ≡ Some (Task.Init extents levels slots) }
 {
     if 1 <= extents

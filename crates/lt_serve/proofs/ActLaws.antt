@@ -1,5 +1,5 @@
 -- A command that was acted, and one that was not.
-use Rattle.std.proofs.Common.{◌≡◌, ℕ, ◌≤◌, refl, sym, ap, subst, ◌∙◌, List, [], ◌∷◌, ◌++◌, take, length, append-nil, Bool, true, false, Option, Some, None, arith}
+use Rattle.std.proofs.Common.{◌≡◌, ℕ, ◌≤◌, refl, sym, ap, subst, ◌∙◌, List, [], ◌∷◌, ◌++◌, take, length, append-nil, Bool, true, false, Option, Some, None, IfSome, arith}
 use Rattle.std.specs.Prelude.{IsTrue}
 use Rattle.std.proofs.lemmas.List.{take_all}
 use Rattle.lt_terms.specs.Items.{Item, put_of, delete_of}
@@ -23,13 +23,14 @@ use Rattle.lt_store.specs.declared.faults.WriteFault.TheVariants as faults
 use Rattle.lt_store.specs.declared.writing.Taken.TheVariants as answer
 use Rattle.lt_store.specs.Acting.{IsStep, accepted_as, command_of, only_asks, reply_of, write_of}
 use Rattle.lt_store.specs.Going.{Goes, Survives}
-use Rattle.lt_store.specs.Open.{IsOpen, IsRooted, Rests, StoreView, extents_of, state_of}
+use Rattle.lt_store.specs.Open.{IsOpen, StoreView, extents_of, state_of}
+use Rattle.lt_store.specs.Promise.{IsRooted, Rests}
 use Rattle.lt_store.proofs.GoLaws.{goes-none, open-rests}
 use Rattle.lt_store.proofs.RootedLaws.{rooted-none}
 use Rattle.lt_serve.specs.Acting.{Answers, Lost}
 use Rattle.lt_serve.specs.Faults.{round_fault_of}
 use Rattle.lt_serve.specs.Outcomes.{HasValue, is_taken, most_text, outcome_text, reply_text}
-use Rattle.lt_serve.specs.Runs.{Runs, is_ok}
+use Rattle.lt_serve.specs.Promise.{Runs, is_ok}
 
 -- one command was acted
 pub runs-one : (e : ℕ) (s : State) (command : Command) (reply : Reply) (writes : List Item) → Step e s command reply (after_writes s writes) → writes ≡ taken command reply → Runs e s (command ∷ []) (reply ∷ []) writes
@@ -133,7 +134,7 @@ quiet-delete key outcomes.Committed page e s t old new step none full limit = ab
 
 -- an event of which no write was taken
 quiet-event : (event : EventView) (command : Command) (outcome : Outcome) (page : List ℕ) (e : ℕ) (s t : State) (old new : told.State) → command_of event ≡ Some command → IsStep e s (command_of event) (reply_of outcome page) t → accepted_as outcome (write_of event) ≡ []
-    → (IsTrue (only_asks event) → new ≡ old) → ((n f : ℕ) → outcome ≡ outcomes.Taken (answer.Full n f) → new ≡ old) → (outcome ≡ outcomes.Taken answer.Limit → new ≡ old) → new ≡ old
+    → (IsTrue (only_asks event) → new ≡ old) → ((n f : ℕ) → outcome ≡ outcomes.Taken (answer.Full n f) → new ≡ old) → IfSome (write_of event) (λ item. outcome ≡ outcomes.Taken answer.Limit → new ≡ old) → new ≡ old
 quiet-event (events.Put key value) command outcome page e s t old new is step none asked full limit = quiet-put key.now value.now outcome page e s t old new step none full limit
 quiet-event (events.Delete key) command outcome page e s t old new is step none asked full limit = quiet-delete key.now outcome page e s t old new step none full limit
 quiet-event (events.Get key) command outcome page e s t old new is step none asked full limit = asked refl
@@ -164,7 +165,7 @@ pub answers-event : (v w : StoreView) (durable : State) (event : EventView) (com
     → command_of event ≡ Some command
     → IsStep (extents_of v) (state_of v durable) (command_of event) (reply_of outcome page) (after_writes (state_of v durable) (accepted_as outcome (write_of event)))
     → Goes v (accepted_as outcome (write_of event)) w durable old new → Leaves IsRooted old new
-    → (IsTrue (only_asks event) → new ≡ old) → ((n f : ℕ) → outcome ≡ outcomes.Taken (answer.Full n f) → v.log.pending ≡ [] → new ≡ old) → (outcome ≡ outcomes.Taken answer.Limit → new ≡ old)
+    → (IsTrue (only_asks event) → new ≡ old) → ((n f : ℕ) → outcome ≡ outcomes.Taken (answer.Full n f) → v.log.pending ≡ [] → new ≡ old) → IfSome (write_of event) (λ item. outcome ≡ outcomes.Taken answer.Limit → new ≡ old)
     → ((n : ℕ) → outcome ≡ outcomes.Value n → value ≡ take n page) → HasValue outcome value
     → length (outcome_text outcome value) ≤ most_text → 3007 ≤ waiting0.room → waiting ≡ with_text waiting0 (outcome_text outcome value)
     → Answers v durable command (is_taken outcome) waiting0 waiting w old new

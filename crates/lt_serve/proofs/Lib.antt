@@ -2,8 +2,10 @@ pub mod ActLaws
 pub mod LineLaws
 pub mod OverLaws
 pub mod PieceLaws
+pub mod ResultLaws
 pub mod RoundLaws
 pub mod RunLaws
 pub mod SendLaws
 pub mod ShownLaws
+pub mod SizeLaws
 pub mod TurnLaws

@@ -17,13 +17,13 @@ use Rattle.lt_language.specs.Machine.{State}
 use Rattle.lt_language.specs.Replies as replies
 use Rattle.lt_language.specs.Replies.{Reply, text, texts}
 use Rattle.lt_language.proofs.LineLaws.{split_lines-append}
-use Rattle.lt_store.specs.Open.{StoreView, IsOpen, Rests}
+use Rattle.lt_store.specs.Open.{StoreView, IsOpen}
+use Rattle.lt_store.specs.Promise.{Rests}
 use Rattle.lt_store.proofs.GoLaws.{open-rests}
 use Rattle.lt_serve.specs.declared.served.Served.{Served}
 use Rattle.lt_serve.specs.declared.served.Served.TheVariants as served
-use Rattle.lt_serve.specs.Faults.{IsPause, IsInnerHalt}
-use Rattle.lt_serve.specs.Runs.{Runs, acknowledged}
-use Rattle.lt_serve.specs.Serving.{Reached, ShowsFirst, Over}
+use Rattle.lt_serve.specs.Promise.{IsPause, IsInnerHalt, Runs, acknowledged, ShowsFirst, Over}
+use Rattle.lt_serve.specs.Serving.{Reached}
 use Rattle.lt_serve.proofs.RunLaws.{runs-more, runs-length, runs-counts, texts-append}
 use Rattle.lt_serve.proofs.ShownLaws.{acknowledged-append}
 
@@ -115,7 +115,7 @@ module _ (e : ℕ) (before : State) (input output kept : List ℕ) (w : StoreVie
     all = λ done. absurd (other done);
     paused = λ pause. (refl, refl);
     far = reached-far;
-    whole = λ inner still. (length r.replies, r.text ∙ ap texts (sym (take_all (length r.replies) r.replies (omega arith))));
+    whole = λ inner still. record { shown = r.replies; hidden = []; order = sym (append-nil r.replies); text = r.text; first = tt };
     since = r.since;
     rooted = r.rooted;
     at_exit = open-has w before r.writes (acknowledged r.replies (length output)) now r.opened reached-sure;

@@ -20,18 +20,21 @@ use Rattle.lt_language.specs.Machine.{State}
 use Rattle.lt_language.specs.Replies.{Reply, texts}
 use Rattle.lt_line.specs.Held.{HeldLine, kept_of}
 use Rattle.lt_line.specs.Waiting.{Waiting, nothing_waits}
-use Rattle.lt_store.specs.Open.{StoreView, IsOpen, IsRooted, Rests}
+use Rattle.lt_store.specs.Open.{StoreView, IsOpen}
+use Rattle.lt_store.specs.Promise.{IsRooted, Rests}
 use Rattle.lt_store.proofs.GoLaws.{open-rests}
 use Rattle.lt_store.proofs.RootedLaws.{rooted-joins}
 use Rattle.lt_serve.specs.declared.faults.RoundFault.{RoundFault}
 use Rattle.lt_serve.specs.declared.faults.RoundFault.TheVariants as faults
 use Rattle.lt_serve.specs.declared.served.Served.{Served}
 use Rattle.lt_serve.specs.declared.served.Served.TheVariants as served
-use Rattle.lt_serve.specs.Faults.{IsLost, IsPause, IsHalt, IsInnerHalt, IsSettled, served_of}
+use Rattle.lt_serve.specs.Faults.{IsLost, IsHalt, served_of}
+use Rattle.lt_serve.specs.Promise.{IsPause, IsInnerHalt, IsSettled, Runs, StartWithOk, acknowledged, Over}
+use Rattle.lt_serve.specs.Promise.{SteppedOver}
 use Rattle.lt_serve.specs.Rounds.{Round, Stopped}
-use Rattle.lt_serve.specs.Runs.{Runs, ok_count, acknowledged}
+use Rattle.lt_serve.specs.Runs.{ok_count}
 use Rattle.lt_serve.specs.Sending.{Sends}
-use Rattle.lt_serve.specs.Serving.{Reached, Over, SteppedOn, SteppedOver}
+use Rattle.lt_serve.specs.Serving.{Reached, SteppedOn}
 use Rattle.lt_serve.proofs.LineLaws.{commands-append, rest_of-append}
 use Rattle.lt_serve.proofs.OverLaws.{since-more, open-has, rests-later, shows, lines-answered}
 use Rattle.lt_serve.proofs.RoundLaws.{no-first, no-second, stopped-order}
@@ -47,6 +50,7 @@ pub record PieceStopped (e : ℕ) (durable : State) (bytes : List ℕ) (status :
   pub order : acted ++ others ≡ commands bytes
   pub shown : List Reply
   pub hidden : List Reply
+  pub first : StartWithOk hidden
   pub writes : List Item
   pub runs : Runs e durable acted (shown ++ hidden) writes
   pub output : List ℕ
@@ -77,6 +81,7 @@ piece-untold e s bytes more kept waiting0 waiting unsent w count stands0 stands 
       order = sym (commands-append bytes more);
       shown = p.replies;
       hidden = [];
+      first = tt;
       writes = p.writes;
       runs = subst (λ (rs : List Reply). Runs e s (commands bytes) rs p.writes) (sym (append-nil p.replies)) p.runs;
       output = take count waiting.settled_text;
@@ -147,6 +152,7 @@ piece-stopped e s bytes held fault waiting0 waiting unsent stands0 stands faults
       order = o.1;
       shown = p.shown;
       hidden = p.hidden;
+      first = p.first;
       writes = p.writes;
       runs = p.runs;
       output = t.output;
@@ -234,8 +240,13 @@ module _ (e : ℕ) (before : State) (input output kept : List ℕ) (w : StoreVie
             (lines-answered e before input r.replies r.writes r.runs front (drop (length front) input) (front-before input piece front behind short is long)) (ap (λ xs. xs ++ p.output) r.text);
         whole = λ inner still.
             let none = p.whole inner still in
-            let all : output ++ p.output ≡ texts told = sym (text_told ∙ ap (λ xs. (output ++ p.output) ++ xs) none ∙ append-nil (output ++ p.output)) in
-            (length told, all ∙ ap texts (sym (take_at told p.hidden (length told) refl) ∙ ap (take (length told)) (sym regroup)));
+            record {
+              shown = told;
+              hidden = p.hidden;
+              order = regroup;
+              text = sym (text_told ∙ ap (λ xs. (output ++ p.output) ++ xs) none ∙ append-nil (output ++ p.output));
+              first = p.first;
+            };
         since = since-more before r.writes p.writes start mid new r.since p.since;
         rooted = rooted-joins start mid new p.rooted r.rooted;
         at_exit = λ left may.

@@ -17,14 +17,16 @@ use Rattle.lt_line.specs.Held.{HeldLine, kept_of}
 use Rattle.lt_line.specs.Waiting.{Waiting, all_settled}
 use Rattle.lt_line.proofs.HeldLaws.{kept_of-append, kept_of-none}
 use Rattle.lt_store.specs.Going.{Goes, Survives}
-use Rattle.lt_store.specs.Open.{IsOpen, IsRooted, Rests, StoreView, extents_of, state_of}
+use Rattle.lt_store.specs.Open.{IsOpen, StoreView, extents_of, state_of}
+use Rattle.lt_store.specs.Promise.{IsRooted, Rests}
 use Rattle.lt_store.proofs.GoLaws.{goes-none, goes-behind, breaks-behind, goes-state}
 use Rattle.lt_store.proofs.RootedLaws.{rooted-joins, rooted-none}
 use Rattle.lt_serve.specs.declared.faults.RoundFault.{RoundFault}
 use Rattle.lt_serve.specs.declared.faults.RoundFault.TheVariants as faults
 use Rattle.lt_serve.specs.Acting.{Answered, Answers, Lost, settled_unless}
-use Rattle.lt_serve.specs.Rounds.{AtCommit, AtLine, Committed, Round, Stopped, StartWithOk, Went, all_text}
-use Rattle.lt_serve.specs.Runs.{Runs, is_ok, ok_count}
+use Rattle.lt_serve.specs.Rounds.{AtCommit, AtLine, Committed, Round, Stopped, Went, all_text}
+use Rattle.lt_serve.specs.Runs.{ok_count}
+use Rattle.lt_serve.specs.Promise.{Runs, StartWithOk, is_ok}
 use Rattle.lt_serve.proofs.LineLaws.{commands-append, commands-unbroken, commands-ended, lines-ended, rest_of-unbroken, rest_of-ended}
 use Rattle.lt_serve.proofs.RunLaws.{ok_count-append, ok_count-cons, runs-more, runs-none, texts-append}
 

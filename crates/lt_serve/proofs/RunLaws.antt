@@ -9,7 +9,8 @@ use Rattle.lt_language.specs.Replies as replies
 use Rattle.lt_language.specs.Replies.{Reply, text, texts}
 use Rattle.lt_image.specs.Standing.{after_writes}
 use Rattle.lt_image.proofs.KeptLaws.{no_writes, writes-joined}
-use Rattle.lt_serve.specs.Runs.{Runs, is_ok, ok_count}
+use Rattle.lt_serve.specs.Runs.{ok_count}
+use Rattle.lt_serve.specs.Promise.{Runs, is_ok}
 
 -- one run behind another
 run-append : (e : ℕ) (s t u : State) (c1 c2 : List Command) (r1 r2 : List Reply) → Run e s c1 r1 t → Run e t c2 r2 u → Run e s (c1 ++ c2) (r1 ++ r2) u

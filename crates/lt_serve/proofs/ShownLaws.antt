@@ -3,7 +3,8 @@ use Rattle.std.proofs.Common.{◌≡◌, ℕ, ◌+◌, ◌-◌, ◌≤◌, subst
 use Rattle.std.proofs.lemmas.Bool.{cases_Bool, leb-true}
 use Rattle.lt_language.specs.Lines.{line_feed}
 use Rattle.lt_language.specs.Replies.{Reply, text, texts, words_of}
-use Rattle.lt_serve.specs.Runs.{ok_count, acknowledged}
+use Rattle.lt_serve.specs.Runs.{ok_count}
+use Rattle.lt_serve.specs.Promise.{acknowledged}
 use Rattle.lt_serve.proofs.RunLaws.{ok_count-cons}
 
 text_some : (r : Reply) → 1 ≤ length (text r)

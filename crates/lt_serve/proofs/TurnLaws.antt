@@ -21,17 +21,16 @@ use Rattle.lt_line.specs.Waiting.{Waiting, all_settled, nothing_waits}
 use Rattle.lt_line.proofs.HeldLaws.{kept_of-none, kept_of-nothing}
 use Rattle.lt_layout.specs.declared.fault.OpenFault.{OpenFault}
 use Rattle.lt_layout.specs.declared.fault.OpenFault.TheVariants as opens
-use Rattle.lt_store.specs.Damage.{StopsOpening}
-use Rattle.lt_store.specs.Open.{StoreView, IsOpen, Rests}
+use Rattle.lt_store.specs.Promise.{StopsOpening, Rests}
+use Rattle.lt_store.specs.Open.{StoreView, IsOpen}
 use Rattle.lt_store.proofs.RootedLaws.{rests-rooted, rooted-none}
 use Rattle.lt_serve.specs.declared.served.Served.{Served}
 use Rattle.lt_serve.specs.declared.served.Served.TheVariants as served
-use Rattle.lt_serve.specs.Damage.{FailsToOpen, IsUnopened}
+use Rattle.lt_serve.specs.Promise.{FailsToOpen, IsUnopened, IsSound, acknowledged, Over, SteppedOver, TurnedOver}
 use Rattle.lt_serve.specs.Ends.{with_end}
-use Rattle.lt_serve.specs.Faults.{IsEnd, IsHalt, IsSound, unopened_of}
-use Rattle.lt_serve.specs.Runs.{acknowledged}
+use Rattle.lt_serve.specs.Faults.{IsEnd, IsHalt, unopened_of}
 use Rattle.lt_serve.specs.Sending.{Sends}
-use Rattle.lt_serve.specs.Serving.{Reached, Over, SteppedOn, SteppedOver, TurnedOn, TurnedOver}
+use Rattle.lt_serve.specs.Serving.{Reached, SteppedOn, TurnedOn}
 use Rattle.lt_serve.proofs.OverLaws.{over-paused, over-done, over-rest}
 use Rattle.lt_serve.proofs.PieceLaws.{on-none, on-on, over-over}
 use Rattle.lt_serve.proofs.RunLaws.{runs-none}
@@ -245,7 +244,7 @@ over-unopened e before status faults0 faults s r =
       all = λ done. (refl, refl);
       paused = λ pause. (refl, refl);
       far = λ front behind is long. absurd (omega (arith, ap length is, length-append front behind));
-      whole = λ inner still. (0, refl);
+      whole = λ inner still. record { shown = []; hidden = []; order = refl; text = refl; first = tt };
       since = begins s (λ left may. prefix-none left before [] (r.rest.each left may));
       rooted = begins s (rests-rooted before s r);
       at_exit = λ left may. prefix-none left before [] (r.rest.each left may);

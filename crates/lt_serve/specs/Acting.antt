@@ -12,11 +12,13 @@ use Rattle.lt_serve.specs.declared.faults.RoundFault.{RoundFault}
 use Rattle.lt_serve.specs.declared.faults.RoundFault.TheVariants as faults
 use Rattle.lt_serve.specs.Faults.{IsLost}
 use Rattle.lt_store.specs.Going.{Goes, Survives}
-use Rattle.lt_store.specs.Open.{StoreView, IsRooted, Rests, extents_of, state_of}
-use Rattle.lt_serve.specs.Runs.{Runs, is_ok}
+use Rattle.lt_store.specs.Open.{StoreView, extents_of, state_of}
+use Rattle.lt_store.specs.Promise.{IsRooted, Rests}
+use Rattle.lt_serve.specs.Promise.{Runs, is_ok}
 
 -- The command was answered by the map machine, and its reply waits; `taken` where it is a write that was taken.
-pub record Answers (v : StoreView) (durable : State) (command : Command) (taken : Bool) (waiting0 waiting : Waiting) (w : StoreView) (old new : told.State) : Type 0 where
+pub record Answers (v : StoreView) (durable : State) (command : Command) (taken : Bool) (waiting0 waiting : Waiting)
+    (w : StoreView) (old new : told.State) : Type 0 where
   pub reply : Reply
   pub writes : List Item
   pub runs : Runs (extents_of v) (state_of v durable) (command ∷ []) (reply ∷ []) writes
@@ -29,7 +31,8 @@ pub record Answers (v : StoreView) (durable : State) (command : Command) (taken 
   pub fits : length (text reply) ≤ waiting0.room
   pub told : waiting ≡ with_text waiting0 (text reply)
 
--- The command was not answered, and no block is damaged. All that was durable still is, at each moment; where memory was short the device is at rest.
+-- The command was not answered, and no block is damaged. All that was durable still is, at each moment; where memory
+-- was short the device is at rest.
 pub record Lost (v : StoreView) (durable : State) (fault : RoundFault) (old new : told.State) : Type 0 where
   pub lost : IsLost fault
   pub survives : Survives v [] durable old new
@@ -42,8 +45,9 @@ abbrev pub settled_unless : Bool → Waiting → Waiting
 settled_unless true w = w
 settled_unless false w = all_settled w
 
--- The same of a line, whose reply is settled as long as no write was taken.
-pub record Answered (v : StoreView) (durable : State) (command : Command) (wrote0 wrote : Bool) (waiting0 waiting : Waiting) (w : StoreView) (old new : told.State) : Type 0 where
+-- A line was answered by the map machine, and its reply is settled as long as no write was taken.
+pub record Answered (v : StoreView) (durable : State) (command : Command) (wrote0 wrote : Bool)
+    (waiting0 waiting : Waiting) (w : StoreView) (old new : told.State) : Type 0 where
   pub reply : Reply
   pub writes : List Item
   pub runs : Runs (extents_of v) (state_of v durable) (command ∷ []) (reply ∷ []) writes

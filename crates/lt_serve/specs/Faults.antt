@@ -8,34 +8,28 @@ use Rattle.lt_serve.specs.declared.faults.RoundFault.TheVariants as rounds
 use Rattle.lt_serve.specs.declared.served.Served.{Served}
 use Rattle.lt_serve.specs.declared.served.Served.TheVariants as served
 
--- the same fault, of a round
+-- the fault of a round that this fault of a write is
 abbrev pub round_fault_of : WriteFault → RoundFault
 round_fault_of writes.Device = rounds.Device
 round_fault_of (writes.Damaged block) = rounds.Damaged block
 round_fault_of writes.NoMemory = rounds.NoMemory
 
--- what serving answers where a round failed so
+-- what serving answers where a round failed by this fault
 abbrev pub served_of : RoundFault → Served
 served_of rounds.Device = served.Device
 served_of (rounds.Damaged block) = served.Damaged block
 served_of rounds.NoMemory = served.NoMemory
 
--- what serving answers where opening failed so
+-- what serving answers where opening failed by this fault
 abbrev pub unopened_of : OpenFault → Served
 unopened_of opens.Device = served.Device
 unopened_of (opens.Damaged block) = served.Damaged block
 unopened_of opens.NoMemory = served.NoMemory
 
--- no block is damaged
+-- the round failed, and not at a damaged block
 abbrev pub IsLost : RoundFault → Type 0
 IsLost (rounds.Damaged block) = ⊥
 IsLost fault = Unit {0}
-
--- serving stopped between two lines, with every reply shown
-abbrev pub IsPause : Served → Type 0
-IsPause served.Source = Unit {0}
-IsPause served.Turns = Unit {0}
-IsPause status = ⊥
 
 -- serving stopped somewhere
 abbrev pub IsHalt : Served → Type 0
@@ -43,25 +37,6 @@ IsHalt served.Sink = Unit {0}
 IsHalt served.Device = Unit {0}
 IsHalt served.NoMemory = Unit {0}
 IsHalt status = ⊥
-
--- serving stopped somewhere, and not by the sink
-abbrev pub IsInnerHalt : Served → Type 0
-IsInnerHalt served.Device = Unit {0}
-IsInnerHalt served.NoMemory = Unit {0}
-IsInnerHalt status = ⊥
-
--- every write that was taken is durable
-abbrev pub IsSettled : Served → Type 0
-IsSettled served.Done = Unit {0}
-IsSettled served.Source = Unit {0}
-IsSettled served.Sink = Unit {0}
-IsSettled served.Turns = Unit {0}
-IsSettled status = ⊥
-
--- no block is damaged
-abbrev pub IsSound : Served → Type 0
-IsSound (served.Damaged block) = ⊥
-IsSound status = Unit {0}
 
 -- what may end a round with its emission
 abbrev pub IsStepEnd : Served → Type 0

@@ -1,11 +1,12 @@
 pub mod Acting
-pub mod Damage
 pub mod Ends
 pub mod Faults
 pub mod Idle
 pub mod Outcomes
+pub mod Promise
 pub mod Rounds
 pub mod Runs
 pub mod Sending
 pub mod Serving
+pub mod Sizes
 pub mod View

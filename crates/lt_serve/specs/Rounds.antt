@@ -1,5 +1,6 @@
 -- What a round makes of the lines of a piece.
-use Rattle.std.specs.Prelude.{◌≡◌, ◌≢◌, ℕ, ◌+◌, ◌-◌, ◌<◌, ◌≤◌, Bool, true, false, List, [], ◌∷◌, ◌++◌, map, take, length}
+use Rattle.std.specs.Prelude.{◌≡◌, ◌≢◌, ℕ, ◌+◌, ◌-◌, ◌<◌, ◌≤◌, Bool, true, false, List, [], ◌∷◌, ◌++◌, map, take}
+use Rattle.std.specs.Prelude.{length}
 use Rattle.lt_terms.specs.Items.{Item}
 use Rattle.lt_device.specs.Moments.{Leaves}
 use Rattle.lt_device.specs.State as told
@@ -7,29 +8,27 @@ use Rattle.lt_image.specs.Standing.{IsPrefix, after_writes}
 use Rattle.lt_language.specs.Commands.{Command, command_of, commands}
 use Rattle.lt_language.specs.Lines.{lines_of, rest_of}
 use Rattle.lt_language.specs.Machine.{State}
-use Rattle.lt_language.specs.Replies as replies
 use Rattle.lt_language.specs.Replies.{Reply, texts}
 use Rattle.lt_line.specs.Held.{HeldLine, kept_of}
 use Rattle.lt_line.specs.Waiting.{Waiting}
 use Rattle.lt_store.specs.Going.{Goes}
-use Rattle.lt_store.specs.Open.{StoreView, IsOpen, IsRooted, Rests, extents_of, state_of}
+use Rattle.lt_store.specs.Open.{StoreView, IsOpen, extents_of, state_of}
+use Rattle.lt_store.specs.Promise.{IsRooted, Rests}
 use Rattle.lt_serve.specs.declared.faults.RoundFault.{RoundFault}
 use Rattle.lt_serve.specs.declared.faults.RoundFault.TheVariants as faults
 use Rattle.lt_serve.specs.Faults.{IsLost}
-use Rattle.lt_serve.specs.Runs.{Runs, ok_count}
-
--- there are none, or the first of them is an `OK`
-abbrev pub StartWithOk : List Reply → Type 0
-StartWithOk [] = Unit {0}
-StartWithOk (replies.ok ∷ rest) = Unit {0}
-StartWithOk rest = ⊥
+use Rattle.lt_serve.specs.Outcomes.{most_text}
+use Rattle.lt_serve.specs.Runs.{ok_count}
+use Rattle.lt_serve.specs.Promise.{Runs, StartWithOk}
 
 -- all text that waits, settled or not
 abbrev pub all_text : Waiting → List ℕ
 all_text waiting = waiting.settled_text ++ waiting.pending_text
 
--- The lines of the bytes were acted from `v` on. The replies before the first write that was taken are settled, and the others wait; `wrote` where there are such.
-pub record Went (v : StoreView) (durable : State) (bytes kept : List ℕ) (wrote : Bool) (waiting0 waiting : Waiting) (w : StoreView) (old new : told.State) : Type 0 where
+-- The lines of the bytes were acted from `v` on. The replies before the first write that was taken are settled, and
+-- the others wait; `wrote` where there are such.
+pub record Went (v : StoreView) (durable : State) (bytes kept : List ℕ) (wrote : Bool) (waiting0 waiting : Waiting)
+    (w : StoreView) (old new : told.State) : Type 0 where
   pub shown : List Reply
   pub hidden : List Reply
   pub writes : List Item
@@ -49,13 +48,19 @@ pub record Went (v : StoreView) (durable : State) (bytes kept : List ℕ) (wrote
   pub quiet : v.log.pending ≡ [] → writes ≡ [] → new ≡ old
 
 -- A round that took the bytes: all their lines were answered, the replies are settled, and all writes are durable.
-pub record Round (e : ℕ) (durable : State) (bytes kept : List ℕ) (waiting0 waiting : Waiting) (w : StoreView) (old new : told.State) : Type 0 where
+pub record Round (e : ℕ) (durable : State) (bytes kept : List ℕ) (waiting0 waiting : Waiting) (w : StoreView)
+    (old new : told.State) : Type 0 where
   pub replies : List Reply
   pub writes : List Item
   pub runs : Runs e durable (commands bytes) replies writes
   pub line : kept ≡ kept_of (rest_of bytes)
   pub fits : length (texts replies) ≤ waiting0.room
-  pub told : waiting ≡ record { settled_text = all_text waiting0 ++ texts replies; pending_text = []; room = waiting0.room - length (texts replies) }
+  pub told : waiting ≡ record {
+    settled_text = all_text waiting0 ++ texts replies;
+    pending_text = [];
+    room =
+        waiting0.room - length (texts replies);
+  }
   pub opened : IsOpen w (after_writes durable writes) new
   pub since : Leaves (λ left. IsPrefix left durable writes 0) old new
   -- each image since names the root alone
@@ -63,8 +68,9 @@ pub record Round (e : ℕ) (durable : State) (bytes kept : List ℕ) (waiting0 w
   -- where no write was taken, the device is as before
   pub quiet : writes ≡ [] → new ≡ old
 
--- The same before its replies are settled; those before its first write that was taken are.
-pub record Committed (e : ℕ) (durable : State) (bytes kept : List ℕ) (waiting0 waiting : Waiting) (w : StoreView) (old new : told.State) : Type 0 where
+-- A round whose writes are durable, and whose replies are not settled yet but for those before its first write.
+pub record Committed (e : ℕ) (durable : State) (bytes kept : List ℕ) (waiting0 waiting : Waiting) (w : StoreView)
+    (old new : told.State) : Type 0 where
   pub replies : List Reply
   pub writes : List Item
   pub runs : Runs e durable (commands bytes) replies writes
@@ -88,17 +94,20 @@ pub record AtLine (bytes kept : List ℕ) (acted : List Command) : Type 0 where
   pub acted_are : acted ≡ map command_of before
   pub held : kept ≡ kept_of line
 
--- The commit failed: all lines of the bytes that were taken were acted, and these are all bytes, unless fewer than 3,007 bytes of room were left.
+-- The commit failed: all lines of the bytes that were taken were acted, and these are all bytes, unless there was no
+-- room left for another reply.
 pub record AtCommit (bytes kept : List ℕ) (acted : List Command) (left : ℕ) : Type 0 where
   pub taken : List ℕ
   pub rest : List ℕ
   pub split : bytes ≡ taken ++ rest
   pub acted_are : acted ≡ commands taken
   pub held : kept ≡ kept_of (rest_of taken)
-  pub short : rest ≢ [] → left < 3007
+  pub short : rest ≢ [] → left < most_text
 
--- A round that failed within the bytes: the lines before the one that is held were acted, the replies before their first write that was taken are settled, and no other.
-pub record Stopped (e : ℕ) (durable : State) (bytes : List ℕ) (held : HeldLine) (fault : RoundFault) (waiting0 : Waiting) (settled : List ℕ) (old new : told.State) : Type 0 where
+-- A round that failed within the bytes: the lines before the one that is held were acted, the replies before their
+-- first write that was taken are settled, and no other.
+pub record Stopped (e : ℕ) (durable : State) (bytes : List ℕ) (held : HeldLine) (fault : RoundFault)
+    (waiting0 : Waiting) (settled : List ℕ) (old new : told.State) : Type 0 where
   pub acted : List Command
   pub shown : List Reply
   pub hidden : List Reply
@@ -107,7 +116,8 @@ pub record Stopped (e : ℕ) (durable : State) (bytes : List ℕ) (held : HeldLi
   pub fits : length (texts (shown ++ hidden)) ≤ waiting0.room
   -- it failed at the line that is held where that has ended, and else at the commit
   pub at_line : held.is_ended ≡ true → AtLine bytes held.kept acted
-  pub at_commit : held.is_ended ≡ false → AtCommit bytes held.kept acted (waiting0.room - length (texts (shown ++ hidden)))
+  pub at_commit : held.is_ended ≡ false
+      → AtCommit bytes held.kept acted (waiting0.room - length (texts (shown ++ hidden)))
   pub text : settled ≡ waiting0.settled_text ++ texts shown
   pub unwritten : ok_count shown ≡ 0
   pub first : StartWithOk hidden

@@ -4,10 +4,10 @@ use Rattle.lt_store.specs.Open.{StoreView}
 use Rattle.lt_store.specs.View.{view_of}
 use Rattle.lt_serve.specs.declared.session.Session.{Session}
 
--- its store
+-- the store of a session
 abbrev pub store_in : Session → StoreView
 store_in s = view_of s.store
 
--- what is kept of the unfinished line
+-- what a session keeps of the unfinished line
 abbrev pub kept_in : Session → List ℕ
 kept_in s = s.lines.kept

@@ -7,12 +7,13 @@ ghost use Rattle.lt_language.specs.Machine.{State};
 ghost use Rattle.lt_language.specs.Valid.{IsWithinLimits};
 ghost use Rattle.lt_line.specs.View.{view_of as command_in};
 ghost use Rattle.lt_store.specs.Acting.{MayAct, command_of};
-ghost use Rattle.lt_store.specs.Damage.{StopsGet};
 ghost use Rattle.lt_store.specs.Open.{IsOpen, blocks_of, extents_of};
 ghost use Rattle.lt_store.specs.View.{view_of};
+ghost use Rattle.lt_serve.specs.Promise.{StopsSomeGet};
+ghost use Rattle.lt_serve.specs.Sizes.{SameSizes};
 ghost use Rattle.lt_serve.specs.Acting.{Answers, Lost};
 ghost use Rattle.lt_serve.specs.Faults.{round_fault_of};
-ghost use Rattle.lt_serve.specs.Outcomes.{HasValue, is_taken};
+ghost use Rattle.lt_serve.specs.Outcomes.{HasValue, is_taken, most_text};
 
 use crate::outcomes::{add_bad, add_outcome};
 use lt_device::Device;
@@ -33,18 +34,19 @@ pub(super) fn act_command<D: Device>(
     requires up { store.old.is_up ≡ true }
     requires limits { IsWithinLimits (command_in command.now) }
     requires within { blocks_of (view_of store.old) ≤ D.blocks device.old }
-    requires room { 3007 ≤ out.old.room }
+    requires room { most_text ≤ out.old.room }
 
     ensures ok { IfOk result (λ taken. (durable : State) → IsOpen (view_of store.old) durable (D.state device.old)
-        → Answers (view_of store.old) durable (command_in command.now) taken out.old out.new (view_of store.new) (D.state device.old) (D.state device.new)) }
+        → Answers (view_of store.old) durable (command_in command.now) taken out.old out.new (view_of store.new)
+        (D.state device.old) (D.state device.new)) }
     ensures err { IfErr result (λ fault. (durable : State) → IsOpen (view_of store.old) durable (D.state device.old)
         → Lost (view_of store.old) durable (round_fault_of fault) (D.state device.old) (D.state device.new)) }
     ensures untold { OnErr result (out.new ≡ out.old) }
 
     ensures up { OnOk result (store.new.is_up ≡ true) }
-    ensures blocks { OnOk result (blocks_of (view_of store.new) ≡ blocks_of (view_of store.old)) }
-    ensures extents { OnOk result (extents_of (view_of store.new) ≡ extents_of (view_of store.old)) }
-    ensures damaged { (b : ℕ) → IsErrOf result (WriteFault.Damaged b) → StopsGet (D.state device.new) b }
+    ensures sizes { OnOk result (SameSizes (view_of store.old) (view_of store.new)) }
+    ensures damaged { (b : ℕ) → IsErrOf result (WriteFault.Damaged b)
+        → StopsSomeGet (view_of store.old).named.geometry (extents_of (view_of store.old)) b (D.state device.new) }
     ensures cause { IsErrOf result WriteFault.Device → Rose (D.faults device.old) (D.faults device.new) }
     ensures later { D.faults device.old ≤ D.faults device.new }
     ensures size { D.blocks device.new ≡ D.blocks device.old }
@@ -74,18 +76,20 @@ fn act_event<D: Device>(
     requires up { store.old.is_up ≡ true }
     requires valid { MayAct event }
     requires within { blocks_of (view_of store.old) ≤ D.blocks device.old }
-    requires room { 3007 ≤ out.old.room }
+    requires room { most_text ≤ out.old.room }
 
-    ensures ok { IfOk result (λ taken. (command : AskedCommand) (durable : State) → command_of event.entry ≡ Some command → IsOpen (view_of store.old) durable (D.state device.old)
-        → Answers (view_of store.old) durable command taken out.old out.new (view_of store.new) (D.state device.old) (D.state device.new)) }
+    ensures ok { IfOk result (λ taken. (command : AskedCommand) (durable : State)
+        → command_of event.entry ≡ Some command → IsOpen (view_of store.old) durable (D.state device.old)
+        → Answers (view_of store.old) durable command taken out.old out.new (view_of store.new) (D.state device.old)
+        (D.state device.new)) }
     ensures err { IfErr result (λ fault. (durable : State) → IsOpen (view_of store.old) durable (D.state device.old)
         → Lost (view_of store.old) durable (round_fault_of fault) (D.state device.old) (D.state device.new)) }
     ensures untold { OnErr result (out.new ≡ out.old) }
 
     ensures up { OnOk result (store.new.is_up ≡ true) }
-    ensures blocks { OnOk result (blocks_of (view_of store.new) ≡ blocks_of (view_of store.old)) }
-    ensures extents { OnOk result (extents_of (view_of store.new) ≡ extents_of (view_of store.old)) }
-    ensures damaged { (b : ℕ) → IsErrOf result (WriteFault.Damaged b) → StopsGet (D.state device.new) b }
+    ensures sizes { OnOk result (SameSizes (view_of store.old) (view_of store.new)) }
+    ensures damaged { (b : ℕ) → IsErrOf result (WriteFault.Damaged b)
+        → StopsSomeGet (view_of store.old).named.geometry (extents_of (view_of store.old)) b (D.state device.new) }
     ensures cause { IsErrOf result WriteFault.Device → Rose (D.faults device.old) (D.faults device.new) }
     ensures later { D.faults device.old ≤ D.faults device.new }
     ensures size { D.blocks device.new ≡ D.blocks device.old }

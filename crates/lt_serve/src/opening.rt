@@ -5,10 +5,11 @@ ghost use Rattle.std.specs.Prelude.{◌≡◌, ℕ, ◌+◌, ◌*◌, ◌≤◌,
 ghost use Rattle.lt_terms.specs.Causes.{Rose};
 ghost use Rattle.lt_device.specs.Reads.{CountsAtMost};
 ghost use Rattle.lt_language.specs.Machine.{State};
-ghost use Rattle.lt_store.specs.Damage.{StopsOpening};
-ghost use Rattle.lt_store.specs.Open.{IsOpen, Rests, blocks_of, extents_of};
+ghost use Rattle.lt_store.specs.Promise.{StopsOpening, Rests};
+ghost use Rattle.lt_store.specs.Open.{IsOpen, blocks_of, extents_of};
 ghost use Rattle.lt_store.specs.Reading.{Reads};
 ghost use Rattle.lt_serve.specs.Ends.{with_end};
+ghost use Rattle.lt_serve.specs.Outcomes.{most_text};
 ghost use Rattle.lt_serve.specs.View.{kept_in, store_in};
 
 use crate::session::Session;
@@ -32,16 +33,19 @@ impl Session {
         ensures reads { IfOk result (λ session. ForSome (D.state device.old).shown (Reads (store_in session))) }
 
         // On a device at rest it is open for what the device stands for.
-        ensures opened { IfOk result (λ session. (s : State) (r : Rests s (D.state device.old)) → IsOpen (store_in session) s (D.state device.new) × (extents_of (store_in session) ≡ r.rest.named.manifest.header.extents)) }
+        ensures opened { IfOk result (λ session. (s : State) (r : Rests s (D.state device.old))
+            → IsOpen (store_in session) s (D.state device.new)
+            × (extents_of (store_in session) ≡ r.rest.named.manifest.header.extents)) }
 
         ensures damaged { (b : ℕ) → IsErrOf result (OpenFault.Damaged b) → StopsOpening (D.state device.old) b }
-        ensures at_rest { (s : State) → Rests s (D.state device.old) → (b : ℕ) → IsErrOf result (OpenFault.Damaged b) → ⊥ }
+        ensures at_rest { (s : State) → Rests s (D.state device.old) → (b : ℕ)
+            → IsErrOf result (OpenFault.Damaged b) → ⊥ }
         ensures cause { IsErrOf result OpenFault.Device → Rose (D.faults device.old) (D.faults device.new) }
         ensures later { D.faults device.old ≤ D.faults device.new }
         ensures state { D.state device.new ≡ D.state device.old }
         ensures size { D.blocks device.new ≡ D.blocks device.old }
         // The most slots and the most extents that there may be.
-        ensures count { CountsAtMost (435 + 2 * 512 + 65536) (D.reads device.old) (D.reads device.new) }
+        ensures count { CountsAtMost (307 + 2 * 512 + 65536) (D.reads device.old) (D.reads device.new) }
     {
         let store = Store::open(alloc, device)?;
         let lines = Lines::new(alloc)?;
@@ -58,7 +62,7 @@ impl Session {
     /// At the end of input: adds `BAD end` exactly where bytes stand after the last line feed.
     pub fn end(&mut self, out: &mut Replies)
         requires up { self.old.is_up ≡ true }
-        requires room { 3007 ≤ out.old.room }
+        requires room { most_text ≤ out.old.room }
         ensures end { out.new ≡ with_end (kept_in self.old) out.old }
         ensures same { self.new ≡ self.old }
     {

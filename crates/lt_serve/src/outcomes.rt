@@ -12,7 +12,7 @@ use lt_store::{Outcome, Stat, Taken};
 
 /// Adds the reply that an outcome is; nothing of a commit. The value is that of a get that found one.
 pub fn add_outcome(out: &mut Replies, outcome: &Outcome, value: &[u8])
-    requires room { 3007 ≤ out.old.room }
+    requires room { most_text ≤ out.old.room }
     requires value { HasValue outcome.now value.now }
     ensures text { out.new ≡ with_text out.old (outcome_text outcome.now value.now) }
     ensures short { length (outcome_text outcome.now value.now) ≤ most_text }
@@ -27,7 +27,7 @@ pub fn add_outcome(out: &mut Replies, outcome: &Outcome, value: &[u8])
 }
 
 fn add_taken(out: &mut Replies, taken: &Taken)
-    requires room { 3007 ≤ out.old.room }
+    requires room { most_text ≤ out.old.room }
     ensures text { out.new ≡ with_text out.old (outcome_text (Outcome.Taken taken.now) []) }
     ensures short { length (outcome_text (Outcome.Taken taken.now) []) ≤ most_text }
 {
@@ -44,7 +44,7 @@ fn add_taken(out: &mut Replies, taken: &Taken)
 }
 
 fn add_value(out: &mut Replies, value: &[u8])
-    requires room { 3007 ≤ out.old.room }
+    requires room { most_text ≤ out.old.room }
     requires value { length value.now ≤ 3000 }
     ensures text { out.new ≡ with_text out.old (text (replies.value value.now)) }
     ensures short { length (text (replies.value value.now)) ≤ most_text }
@@ -55,9 +55,11 @@ fn add_value(out: &mut Replies, value: &[u8])
 }
 
 fn add_stat(out: &mut Replies, stat: &Stat)
-    requires room { 3007 ≤ out.old.room }
-    ensures text { out.new ≡ with_text out.old (text (replies.stat stat.now.writes stat.now.reads stat.now.tables stat.now.free)) }
-    ensures short { length (text (replies.stat stat.now.writes stat.now.reads stat.now.tables stat.now.free)) ≤ most_text }
+    requires room { most_text ≤ out.old.room }
+    ensures text { out.new ≡ with_text out.old (text
+        (replies.stat stat.now.writes stat.now.reads stat.now.tables stat.now.free)) }
+    ensures short { length (text (replies.stat stat.now.writes stat.now.reads stat.now.tables stat.now.free)) ≤
+        most_text }
 {
     out.add(b"STAT");
     add_number(out, stat.writes);
@@ -80,7 +82,7 @@ fn add_number(out: &mut Replies, number: u64)
 
 /// Adds the refusal of a line.
 pub(super) fn add_bad(out: &mut Replies, kind: Bad)
-    requires room { 3007 ≤ out.old.room }
+    requires room { most_text ≤ out.old.room }
     ensures text { out.new ≡ with_text out.old (text (replies.bad kind)) }
     ensures short { length (text (replies.bad kind)) ≤ most_text }
 {

@@ -1,9 +1,8 @@
 use Rattle.std.proofs.Common.{◌≡◌, ◌<◌, refl, subst, ⊎_elim}
 use Rattle.lt_format.specs.Layout.{blocks_needed}
-use Rattle.lt_cli.specs.Making.{IsMade, IsRefused}
+use Rattle.lt_cli.specs.Promise.{IsMade, IsRefused, Means}
 use Rattle.lt_cli.specs.declared.status.Status.TheVariants.{Done, Refused}
 use Rattle.lt_cli.specs.declared.words.Task.TheVariants.{Run, Init}
-use Rattle.lt_cli.specs.Words.{Means}
 use Rattle.lt_cli.proofs.WordLaws.{same-sizes}
 use Rattle.lt_cli.proofs.top.lsm_trie.Goals as goal
 

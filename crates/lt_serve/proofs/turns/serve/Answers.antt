@@ -1,9 +1,9 @@
-use Rattle.std.proofs.Common.{ℕ, [], ap, refl, subst, Err}
+use Rattle.std.proofs.Common.{ℕ, [], ap, inr, refl, subst, Err}
 use Rattle.lt_device.specs.State as told
-use Rattle.lt_serve.specs.Faults.{IsSound}
-use Rattle.lt_serve.specs.Serving.{TurnedOver}
+use Rattle.lt_serve.specs.Promise.{IsSound, TurnedOver}
 use Rattle.lt_serve.proofs.TurnLaws.{turned-unopened, unopened-named}
 use Rattle.lt_image.specs.Opening.{open_image}
+use Rattle.lt_serve.proofs.SizeLaws.{found-by-get}
 use Rattle.lt_serve.proofs.turns.serve.Goals as goal
 use Rattle.lt_store.proofs.OpenLaws.{not_both}
 
@@ -30,3 +30,6 @@ returns-in-Err-clause-unopened g c = λ b fails. (
   refl,
   refl,
 )
+
+pub returns-in-Ok-clause-damaged : goal.returns-in-Ok-clause-damaged
+returns-in-Ok-clause-damaged g c = λ b is. inr (found-by-get _ _ b _ c.in-Ok.ensures.reads (c.serve_open.ensures.damaged b is))

@@ -1,6 +1,8 @@
-use Rattle.std.proofs.Common.{refl, ◌∙◌, arith}
+use Rattle.std.proofs.Common.{refl, ◌∙◌, IsErrOf, rules, arith}
+use Rattle.lt_serve.specs.declared.served.Served.TheVariants as served
 use Rattle.lt_serve.proofs.TurnLaws.{turned-none, turned-pause, turned-more, turned-last, rose-more}
 use Rattle.lt_serve.proofs.SendLaws.{gains_some-none, gains_some-more}
+use Rattle.lt_serve.proofs.SizeLaws.{sizes-same, sizes-more, stops-same}
 use Rattle.lt_serve.proofs.turns.serve_open.Goals as goal
 
 pub returns-in_default-clause-over : goal.returns-in_default-clause-over
@@ -13,8 +15,7 @@ pub loop-number-init : goal.loop-number-init
 loop-number-init g c = record {
   up = c.requires.up;
   none = c.in-Ok-new.ensures;
-  blocks = refl;
-  extents = refl;
+  sizes = sizes-same _;
   size = refl;
   source_later = omega arith;
   sink_later = omega arith;
@@ -29,7 +30,7 @@ pub returns-in-Err-clause-over : goal.returns-in-Err-clause-over
 returns-in-Err-clause-over g c = λ before opened.
     let so_far = c.loop-number.invariant in
     let t = so_far.on before opened in
-    turned-last _ before _ _ _ _ _ _ _ _ t _ so_far.extents _ _ _ c.in-Err.served _ _ _ so_far.sink_later (c.in-Err.ensures.over before t.taken t.on.added (g.D.Device.state c.args.device.now))
+    turned-last _ before _ _ _ _ _ _ _ _ t _ so_far.sizes.extents _ _ _ c.in-Err.served _ _ _ so_far.sink_later (c.in-Err.ensures.over before t.taken t.on.added (g.D.Device.state c.args.device.now))
 
 pub loop-number-preserved : goal.loop-number-preserved
 loop-number-preserved g c =
@@ -38,8 +39,7 @@ loop-number-preserved g c =
     record {
       up = turn.up;
       none = turn.none;
-      blocks = turn.blocks ∙ so_far.blocks;
-      extents = turn.extents ∙ so_far.extents;
+      sizes = sizes-more _ _ _ so_far.sizes turn.sizes;
       size = turn.size ∙ so_far.size;
       source_later = omega (arith, so_far.source_later, turn.source_later);
       sink_later = omega (arith, so_far.sink_later, turn.sink_later);
@@ -49,7 +49,7 @@ loop-number-preserved g c =
       pieces = rose-more c.loop-number.number _ _ _ so_far.pieces turn.pieces;
       on = λ before opened.
           let t = so_far.on before opened in
-          turned-more _ before _ _ _ _ _ _ _ _ t _ so_far.extents _ _ _ _ _ (turn.on before t.taken t.on.added (g.D.Device.state c.args.device.now));
+          turned-more _ before _ _ _ _ _ _ _ _ t _ so_far.sizes.extents _ _ _ _ _ (turn.on before t.taken t.on.added (g.D.Device.state c.args.device.now));
     }
 
 pub returns-clause-over : goal.returns-clause-over
@@ -60,3 +60,8 @@ returns-in-Err-clause-sink_gains g c = gains_some-more _ _ _ c.loop-number.invar
 
 pub returns-clause-sink_gains : goal.returns-clause-sink_gains
 returns-clause-sink_gains g c = c.loop-number.invariant.sink_gains
+
+pub returns-in-Err-clause-damaged : goal.returns-in-Err-clause-damaged
+returns-in-Err-clause-damaged g c = λ b is.
+    let was : IsErrOf c.turn.result (served.Damaged b) = search rules in
+    stops-same _ _ b _ c.loop-number.invariant.sizes (c.turn.ensures.damaged b was)

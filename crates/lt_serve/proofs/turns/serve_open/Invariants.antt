@@ -2,8 +2,9 @@ use Rattle.std.proofs.Common.{◌≡◌, ◌+◌, ◌≤◌, [], true}
 use Rattle.lt_terms.specs.Causes.{RoseBy}
 use Rattle.lt_language.specs.Machine.{State}
 use Rattle.lt_line.specs.Waiting.{nothing_waits}
-use Rattle.lt_store.specs.Open.{IsOpen, blocks_of, extents_of}
+use Rattle.lt_store.specs.Open.{IsOpen, extents_of}
 use Rattle.lt_serve.specs.Serving.{GainsSome, TurnedOn}
+use Rattle.lt_serve.specs.Sizes.{SameSizes}
 use Rattle.lt_serve.specs.View.{kept_in, store_in}
 use Rattle.lt_serve.proofs.turns.serve_open.Given as goal
 
@@ -11,8 +12,7 @@ abbrev pub invariant-loop-number : goal.invariant-loop-number
 invariant-loop-number g l = record {
   up : l.session.is_up ≡ true;
   none : l.replies ≡ nothing_waits;
-  blocks : blocks_of (store_in l.session) ≡ blocks_of (store_in l.fn.session);
-  extents : extents_of (store_in l.session) ≡ extents_of (store_in l.fn.session);
+  sizes : SameSizes (store_in l.fn.session) (store_in l.session);
   size : g.D.Device.blocks l.device ≡ g.D.Device.blocks l.fn.device;
   source_later : g.S.Source.faults l.fn.source ≤ g.S.Source.faults l.source;
   sink_later : g.K.Sink.faults l.fn.sink ≤ g.K.Sink.faults l.sink;

@@ -2,8 +2,9 @@ use Rattle.std.proofs.Common.{◌≡◌, ◌≤◌, ◌-◌, ℕ, List, true, �
 use Rattle.lt_device.specs.State as told
 use Rattle.lt_language.specs.Machine.{State}
 use Rattle.lt_line.specs.Waiting.{nothing_waits}
-use Rattle.lt_store.specs.Open.{blocks_of, extents_of}
+use Rattle.lt_store.specs.Open.{extents_of}
 use Rattle.lt_serve.specs.Serving.{GainsSome, Reached, SteppedOn}
+use Rattle.lt_serve.specs.Sizes.{SameSizes}
 use Rattle.lt_serve.specs.View.{kept_in, store_in}
 use Rattle.lt_serve.proofs.turns.serve_piece.Given as goal
 
@@ -12,8 +13,7 @@ invariant-loop-at g l = record {
   within : l.at ≤ length l.piece;
   up : l.session.is_up ≡ true;
   none : l.replies ≡ nothing_waits;
-  blocks : blocks_of (store_in l.session) ≡ blocks_of (store_in l.fn.session);
-  extents : extents_of (store_in l.session) ≡ extents_of (store_in l.fn.session);
+  sizes : SameSizes (store_in l.fn.session) (store_in l.session);
   size : g.D.Device.blocks l.device ≡ g.D.Device.blocks l.fn.device;
   device_later : g.D.Device.faults l.fn.device ≤ g.D.Device.faults l.device;
   sink_later : g.K.Sink.faults l.fn.sink ≤ g.K.Sink.faults l.sink;

@@ -3,8 +3,9 @@ use Rattle.std.specs.Bool.{IsFalse}
 use Rattle.lt_language.specs.Lines.{has_line_feed}
 use Rattle.lt_language.specs.Machine.{State}
 use Rattle.lt_line.specs.Held.{kept_of}
-use Rattle.lt_store.specs.Open.{IsOpen, blocks_of, extents_of}
+use Rattle.lt_store.specs.Open.{IsOpen, extents_of}
 use Rattle.lt_serve.specs.Rounds.{Went}
+use Rattle.lt_serve.specs.Sizes.{SameSizes}
 use Rattle.lt_serve.specs.View.{kept_in, store_in}
 use Rattle.lt_serve.proofs.session.Session.act_all.Given as goal
 
@@ -15,8 +16,7 @@ invariant-loop-at g l = record {
   up : l.self.store.is_up ≡ true;
   open_line : l.self.lines.is_ended ≡ false;
   begun : l.at ≡ 0 → 3007 ≤ l.out.room;
-  blocks : blocks_of (store_in l.self) ≡ blocks_of (store_in l.fn.self);
-  extents : extents_of (store_in l.self) ≡ extents_of (store_in l.fn.self);
+  sizes : SameSizes (store_in l.fn.self) (store_in l.self);
   size : g.D.Device.blocks l.device ≡ g.D.Device.blocks l.fn.device;
   later : g.D.Device.faults l.fn.device ≤ g.D.Device.faults l.device;
   went : (durable : State) (line : List ℕ) → IsOpen (store_in l.fn.self) durable (g.D.Device.state l.fn.device) → IsFalse (has_line_feed line) → kept_in l.fn.self ≡ kept_of line

@@ -1,0 +1,168 @@
+-- What serving promises: which lines were acted, what was answered and shown, and what the device may hold.
+use Rattle.std.specs.Prelude.{◌≡◌, ℕ, ◌+◌, ◌-◌, Bool, true, false, List, [], ◌∷◌, length, nat_le, if◌then◌else◌}
+use Rattle.std.specs.Prelude.{◌≤◌, ◌++◌, take, Option, Some, Ok, Err}
+use Rattle.lt_terms.specs.Items.{Item}
+use Rattle.lt_language.specs.Commands.{Command, commands, ended}
+use Rattle.lt_language.specs.Machine.{State, Run, accepted}
+use Rattle.lt_language.specs.Replies as replies
+use Rattle.lt_language.specs.Replies.{Reply, text, texts}
+use Rattle.lt_image.specs.Standing.{after_writes, IsPrefix}
+use Rattle.lt_serve.specs.declared.served.Served.{Served}
+use Rattle.lt_serve.specs.declared.served.Served.TheVariants as served
+use Rattle.lt_terms.specs.Bytes.{Image}
+use Rattle.lt_terms.specs.Causes.{Rose}
+use Rattle.lt_device.specs.Moments.{Leaves, MayLeave}
+use Rattle.lt_device.specs.State as told
+use Rattle.lt_io.specs.Sink.{Gains}
+use Rattle.lt_io.specs.Source.{Takes, IsAtEnd}
+use Rattle.lt_language.specs.Lines.{lines_of}
+use Rattle.lt_store.specs.Promise.{IsRooted, Rests, StopsGet}
+use Rattle.lt_format.specs.declared.geometry.Geometry.{Geometry}
+use Rattle.lt_format.specs.Naming.{Named}
+use Rattle.lt_image.specs.Opening.{Opened, open_image}
+
+-- in a store of e extents the commands were answered so from this state on, and these are the writes that were taken
+pub record Runs (e : ℕ) (start : State) (commands : List Command) (replies : List Reply)
+    (writes : List Item) : Type 0 where
+  pub run : Run e start commands replies (after_writes start writes)
+  pub taken_are : writes ≡ accepted commands replies
+
+-- a put or a delete was taken
+abbrev pub is_ok : Reply → Bool
+is_ok replies.ok = true
+is_ok reply = false
+
+-- there are no replies, or the first of them is an `OK`
+abbrev pub StartWithOk : List Reply → Type 0
+StartWithOk [] = Unit {0}
+StartWithOk (replies.ok ∷ rest) = Unit {0}
+StartWithOk rest = ⊥
+
+-- how many of the replies are an `OK` that lies, with its line feed, in the first so many bytes of their text
+unfoldable pub acknowledged : List Reply → ℕ → ℕ
+acknowledged [] shown = 0
+acknowledged (reply ∷ replies) shown =
+    if nat_le (length (text reply)) shown
+    then (if is_ok reply then 1 else 0) + acknowledged replies (shown - length (text reply))
+    else 0
+
+-- the answer says that serving stopped between two lines, with every reply shown
+abbrev pub IsPause : Served → Type 0
+IsPause served.Source = Unit {0}
+IsPause served.Turns = Unit {0}
+IsPause status = ⊥
+
+-- the answer is a fault of the device or want of memory
+abbrev pub IsInnerHalt : Served → Type 0
+IsInnerHalt served.Device = Unit {0}
+IsInnerHalt served.NoMemory = Unit {0}
+IsInnerHalt status = ⊥
+
+-- the answer says that every write that was taken is durable
+abbrev pub IsSettled : Served → Type 0
+IsSettled served.Done = Unit {0}
+IsSettled served.Source = Unit {0}
+IsSettled served.Sink = Unit {0}
+IsSettled served.Turns = Unit {0}
+IsSettled status = ⊥
+
+-- the answer names no damaged block
+abbrev pub IsSound : Served → Type 0
+IsSound (served.Damaged block) = ⊥
+IsSound status = Unit {0}
+
+-- the text of so many first replies stands whole in the output
+pub record ShowsFirst (count : ℕ) (replies : List Reply) (output : List ℕ) : Type 0 where
+  pub many : count ≤ length replies
+  pub further : List ℕ
+  pub whole : output ≡ texts (take count replies) ++ further
+
+-- The output is the text of the first of these replies, each of them whole: of all, or of those before a reply that
+-- is an `OK`.
+pub record ShowsUpToOk (replies : List Reply) (output : List ℕ) : Type 0 where
+  pub shown : List Reply
+  pub hidden : List Reply
+  pub order : replies ≡ shown ++ hidden
+  pub text : output ≡ texts shown
+  pub first : StartWithOk hidden
+
+-- Serving is over: first commands of the ended input were answered by the map machine, and the output is a front of
+-- the text of the replies.
+pub record Over (e : ℕ) (before : State) (status : Served) (input output : List ℕ) (faults0 faults : ℕ)
+    (old new : told.State) : Type 0 where
+  -- the commands that were acted and those that were not
+  pub acted : List Command
+  pub others : List Command
+  pub order : acted ++ others ≡ ended input
+  -- the run over them, and the writes that were taken
+  pub replies : List Reply
+  pub writes : List Item
+  pub runs : Runs e before acted replies writes
+  -- what of their text is not shown
+  pub hidden : List ℕ
+  pub text : texts replies ≡ output ++ hidden
+  -- at the end of input: all of it
+  pub all : status ≡ served.Done → (others ≡ []) × (hidden ≡ [])
+  -- between two lines: all lines
+  pub paused : IsPause status → (acted ≡ commands input) × (hidden ≡ [])
+  -- elsewhere: the lines that end a page or more before the end of what was taken are answered; and where the sink
+  -- did not fail, no reply before the first `OK` that is not shown is hidden
+  pub far : (front behind : List ℕ) → input ≡ front ++ behind → 4096 ≤ length behind
+      → ShowsFirst (length (lines_of front)) replies output
+  pub whole : IsInnerHalt status → (Rose faults0 faults → ⊥) → ShowsUpToOk replies output
+  -- each image since the start has first writes of those that were taken, and none in part
+  pub since : Leaves (λ left. IsPrefix left before writes 0) old new
+  -- and its manifest names no node but the root
+  pub rooted : Leaves IsRooted old new
+  -- each image that a crash may leave at exit has every write whose `OK` and line feed the output has
+  pub at_exit : (left : Image) → MayLeave new left → IsPrefix left before writes (acknowledged replies (length output))
+  -- but for a fault of the device it is at rest: with all writes, or where memory was short with the first of them
+  pub rests : status ≡ served.NoMemory → (sure : ℕ) × Rests (after_writes before (take sure writes)) new
+  pub rests_all : IsSettled status → Rests (after_writes before writes) new
+  -- and as before where no write was taken
+  pub quiet : IsSettled status → writes ≡ [] → new ≡ old
+
+-- a call that gave bytes to the sink, and after which serving is over
+pub record SteppedOver (e : ℕ) (before : State) (status : Served) (input output : List ℕ) (stands0 stands : List ℕ
+    → Type 0) (faults0 faults : ℕ) (start new : told.State) : Type 0 where
+  pub added : List ℕ
+  pub gained : Gains stands0 stands added
+  pub over : Over e before status input (output ++ added) faults0 faults start new
+
+-- a call that took bytes of the source, gave bytes to the sink, and after which serving is over
+pub record TurnedOver (e : ℕ) (before : State) (status : Served) (input output : List ℕ) (left0 left : Option
+    (List ℕ)) (stands0 stands : List ℕ → Type 0) (faults0 faults : ℕ) (start new : told.State) : Type 0 where
+  pub taken : List ℕ
+  pub takes : Takes left0 left taken
+  pub at_end : status ≡ served.Done → IsAtEnd left
+  pub over : SteppedOver e before status (input ++ taken) output stands0 stands faults0 faults start new
+
+-- the device tells its blocks, and opening them stops at this one
+pub record FailsToOpen (device : told.State) (block : ℕ) : Type 0 where
+  pub image : Image
+  pub shown : device.shown ≡ Some image
+  pub stops : open_image image ≡ Err block
+
+-- this block is named, or the device failed or memory was short
+abbrev pub IsUnopened : ℕ → Served → Type 0
+IsUnopened block (served.Damaged b) = b ≡ block
+IsUnopened block served.Device = Unit {0}
+IsUnopened block served.NoMemory = Unit {0}
+IsUnopened block status = ⊥
+
+-- In a store of this geometry and so many extents a get of some key stops at this block: it is that of a bucket of a
+-- table which a manifest of the store names on the key's path, and spells no bucket.
+pub record StopsSomeGet (geometry : Geometry) (extents block : ℕ) (now : told.State) : Type 0 where
+  pub key : List ℕ
+  pub named : Named
+  pub geometry_is : named.geometry ≡ geometry
+  pub extents_are : named.manifest.header.extents ≡ extents
+  pub stops : StopsGet named now.shown key block
+
+-- A get stopped at this block, in a store as large as the one that the device opened as.
+pub record FoundByGet (old : told.State) (block : ℕ) (now : told.State) : Type 0 where
+  pub geometry : Geometry
+  pub extents : ℕ
+  pub opened : (image : Image) (opened : Opened) → old.shown ≡ Some image → open_image image ≡ Ok opened
+      → (geometry ≡ opened.named.geometry) × (extents ≡ opened.named.manifest.header.extents)
+  pub get : StopsSomeGet geometry extents block now
