@@ -52,7 +52,7 @@ items_take (suc n) bytes items h =
     let size : suc (length rest.0) ≡ length items = ap length rest.2 in
     omega (arith, more, one, size)
 
-items_are : (o : Option (Option Sends)) (is : Option (List Item)) (b : Bucket) → option_and_then (λ sends. option_map (λ items. record { sends = sends; items = items }) is) o ≡ Some b → is ≡ Some b.items
+pub items_are : (o : Option (Option Sends)) (is : Option (List Item)) (b : Bucket) → option_and_then (λ sends. option_map (λ items. record { sends = sends; items = items }) is) o ≡ Some b → is ≡ Some b.items
 items_are None is b h = absurd (none-some b h)
 items_are (Some x) None b h = absurd (none-some b h)
 items_are (Some x) (Some items) b h = let same : record { sends = x; items = items } ≡ b = cc in ap Some (ap (λ (b : Bucket). b.items) same)

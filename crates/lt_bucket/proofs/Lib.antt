@@ -4,3 +4,4 @@ pub mod BucketPages
 pub mod Growing
 mod Finished
 mod FewLaws
+mod KnownLaws

@@ -1,11 +1,11 @@
 //! What bytes spell.
 
-ghost use Rattle.std.specs.Prelude.{◌≡◌, ◌+◌, ◌≤◌, IsTrue, length, drop};
+ghost use Rattle.std.specs.Prelude.{◌≡◌, ◌+◌, ◌≤◌, IsTrue, is_some, length, drop, slice_range};
 ghost use Rattle.std.specs.List.{list_all};
 ghost use Rattle.std.specs.Option.{option_copied};
 ghost use Rattle.lt_terms.specs.Items.{is_valid, items_of};
 ghost use Rattle.lt_tables.specs.Bucket.{sends_of};
-ghost use Rattle.lt_bucket.specs.Reading.{items_area};
+ghost use Rattle.lt_bucket.specs.Reading.{items_area, items_in};
 
 use lt_item::{ItemView, read_item};
 use lt_page::{Page, all_zero};
@@ -49,6 +49,14 @@ impl<'a> Items<'a> {
         } else {
             None
         }
+    }
+
+    /// The items that are known to fill these bytes, as many as this. None of them is read.
+    pub fn known(count: u16, bytes: &'a [u8]) -> Items<'a>
+        requires { IsTrue (is_some (items_of count bytes.now)) }
+        ensures { result ≡ items_in count bytes.now }
+    {
+        Items { left: count, bytes }
     }
 
     /// How many items are left.
@@ -121,4 +129,12 @@ pub fn items_area(page: &Page) -> Option<&[u8]>
     } else {
         None
     }
+}
+
+/// So many bytes of a page from where its items begin.
+pub fn area(page: &Page, used: u16) -> &[u8]
+    requires { used ≤ 4080 }
+    ensures { result.now ≡ slice_range page.now 16 (16 + used) }
+{
+    &page.bytes()[16..16 + used as usize]
 }

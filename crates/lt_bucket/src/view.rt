@@ -10,7 +10,7 @@ ghost use Rattle.lt_item.specs.Views.{item_of};
 ghost use Rattle.lt_bucket.specs.Looks.{look_of};
 ghost use Rattle.lt_tables.specs.Bucket.{bucket_of, items_on, sends_on, look_on, sent_to};
 
-use crate::reading::{Items, items_area, sends_of};
+use crate::reading::{Items, area, items_area, sends_of};
 use lt_item::{ItemView, Parts};
 use lt_page::Page;
 use lt_tables::Sends;
@@ -56,10 +56,20 @@ impl<'a> BucketView<'a> {
         ensures spelled { is_some result ≡ is_some (bucket_of page.now) }
         ensures page { IfSome result (λ view. view ≡ page.now) }
     {
-        let spelled = items_area(page)?;
         let sends = sends_of(page.byte(4), page.byte(5), page.number_u32(6))?;
-        let items = Items::of(page.number_u16(0), spelled)?;
+        let items = Items::of(page.number_u16(0), items_area(page)?)?;
         Some(BucketView { page, sends, items })
+    }
+
+    /// The bucket of a page that is known to spell one. It reads the header alone.
+    pub fn known(page: &'a Page) -> BucketView<'a>
+        requires { IsTrue (is_some (bucket_of page.now)) }
+        ensures { result ≡ page.now }
+    {
+        let sends = sends_of(page.byte(4), page.byte(5), page.number_u32(6)).unwrap();
+        let spelled = area(page, page.number_u16(2));
+        let items = Items::known(page.number_u16(0), spelled);
+        BucketView { page, sends, items }
     }
 
     /// How many items there are.
