@@ -1,5 +1,5 @@
 -- The blocks that a get stops at.
-use Rattle.std.proofs.Common.{◌≡◌, ℕ, zero, suc, ◌<◌, ◌≤◌, refl, sym, ap, subst, ◌∙◌, List, [], ◌∷◌, Bool, true, false, Option, None, arith}
+use Rattle.std.proofs.Common.{◌≡◌, ℕ, ◌<◌, refl, sym, ap, subst, ◌∙◌, List, [], ◌∷◌, Bool, true, false, Option, arith}
 use Rattle.std.specs.Prelude.{IsTrue, nat_le, ◌==◌, ◌||◌}
 use Rattle.std.specs.List.{AllByRecursion}
 use Rattle.std.proofs.lemmas.Bool.{and_parts, leb-true, eqb-true}
@@ -8,7 +8,7 @@ use Rattle.lt_terms.specs.Items.{Item}
 use Rattle.lt_terms.specs.Numbers.{is_in}
 use Rattle.lt_tables.specs.Bucket.{bucket_of}
 use Rattle.lt_format.specs.Naming.{Named}
-use Rattle.lt_format.specs.Trie.{named, node_at, path, root}
+use Rattle.lt_format.specs.Trie.{named, node_at, root}
 use Rattle.lt_htable.specs.Reading.{IsNoBucket}
 use Rattle.lt_image.proofs.ChangeLaws.{path-root}
 use Rattle.lt_image.proofs.MapLaws.{named-tables}

@@ -1,7 +1,6 @@
 -- What an open store has of its device.
 use Rattle.std.specs.Prelude.{◌≡◌, ℕ, ◌++◌, Bool, List, Option, length}
 use Rattle.std.specs.List.{AllByRecursion}
-use Rattle.lt_terms.specs.Bytes.{Image}
 use Rattle.lt_terms.specs.Items.{Item}
 use Rattle.lt_device.specs.State as told
 use Rattle.lt_language.specs.Machine.{State}

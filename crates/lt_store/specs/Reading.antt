@@ -1,5 +1,5 @@
 -- What opening a store reads of an image, and where it may find damage.
-use Rattle.std.specs.Prelude.{◌≡◌, ℕ, ◌+◌, ◌<◌, true, false, List, [], Option, None, length, IsTrue}
+use Rattle.std.specs.Prelude.{◌≡◌, ℕ, ◌+◌, ◌<◌, true, false, List, Option, None, length, IsTrue}
 use Rattle.std.specs.Prelude.{slice_index_or, Ok}
 use Rattle.std.specs.List.{AllByRecursion}
 use Rattle.lt_terms.specs.Bytes.{Image}

@@ -5,7 +5,6 @@ use Rattle.lt_terms.specs.Causes.{Rose}
 use Rattle.lt_terms.specs.Items.{Item, item_cost, total_cost}
 use Rattle.lt_device.specs.declared.device.Device.{Ghosts}
 use Rattle.lt_device.specs.Moments.{Leaves, MayLeave}
-use Rattle.lt_device.specs.State as told
 use Rattle.lt_format.specs.Log.{group_room}
 use Rattle.lt_language.specs.Machine.{State, most_writes}
 use Rattle.lt_store.specs.declared.faults.WriteFault.{WriteFault}

@@ -1,5 +1,4 @@
-use Rattle.std.proofs.Common.{◌<◌, IsTrue, ap, subst, arith}
-use Rattle.lt_format.specs.Layout.{is_geometry}
+use Rattle.std.proofs.Common.{◌<◌, ap, subst, arith}
 use Rattle.lt_redo.specs.Slots.{InLogArea}
 use Rattle.lt_store.proofs.OpenLaws.{log-below}
 use Rattle.lt_store.proofs.opening.read_log.Goals as goal

@@ -1,18 +1,15 @@
-use Rattle.std.proofs.Common.{rules, ◌≡◌, ℕ, sym, ap, subst, ◌∙◌, true, List, [], Some, None, Ok, Err, vec_len}
+use Rattle.std.proofs.Common.{rules, ◌≡◌, ℕ, sym, ap, subst, ◌∙◌, List, [], Some, None, Ok, Err, vec_len}
 use Rattle.std.specs.Prelude.{IsErrOf}
 use Rattle.std.proofs.lemmas.Result.{err_from_is_err_and}
 use Rattle.lt_htable.specs.declared.faults.LookFault.TheVariants.{Damaged}
 use Rattle.lt_store.specs.declared.counts.Stat.{Stat}
 use Rattle.lt_store.specs.declared.acting.Outcome.TheVariants as outcomes
-use Rattle.lt_terms.specs.Items.{Item, item_cost, put_of, delete_of}
-use Rattle.lt_store.specs.Acting.{command_of, write_of}
+use Rattle.lt_terms.specs.Items.{put_of, delete_of}
+use Rattle.lt_store.specs.Acting.{command_of}
 use Rattle.lt_device.specs.State as told
 use Rattle.lt_image.specs.Counts.{HasCounts}
 use Rattle.lt_store.specs.Promise.{StopsGet}
-use Rattle.lt_store.specs.Flushing.{IsFlushed}
 use Rattle.lt_store.specs.Getting.{AnswersSeen, seen_of}
-use Rattle.lt_store.specs.Going.{appended}
-use Rattle.lt_store.specs.Taking.{is_due, readied}
 use Rattle.lt_store.specs.Open.{StoreView, state_of}
 use Rattle.lt_store.specs.View.{view_of}
 use Rattle.lt_store.proofs.ActLaws.{asks-goes, asks-rooted, event-rooted, event-writes, none-rooted, stat-step, put-step, delete-step, refused-goes, same-err, same-key, same-ok, same-stat, tells-fault, tells-none, tells-value, limits}

@@ -15,8 +15,8 @@ use Rattle.lt_store.proofs.SeenLaws.{answers-fault, answers-seen, given-seen, me
 use Rattle.lt_store.proofs.store.Store.get.Goals as goal
 use Rattle.lt_store.proofs.store.Store.get.Goals.{in-Some, in-None+in_ok-version-in-None}
 
-pub search-requires : goal.search-requires
-search-requires g c =
+pub search-requires-clause-within : goal.search-requires-clause-within
+search-requires-clause-within g c =
     let k = c.args.self.now.kept c.requires.up in
     rw (c.pile-tables.ensures, c.trie.ensures.nodes, c.geometry.ensures.geometry)
     (tables-within _ _ _ c.args.self.now.manifest.geometry c.args.self.now.manifest.manifest.trie k.manifest.trie c.requires.within)
@@ -35,7 +35,7 @@ pub returns-clause-answer : goal.returns-clause-answer
 returns-clause-answer g c = λ durable opened.
     let s = c.args.self.now in
     let k = s.kept c.requires.up in
-    elim c.match-get.branch [
+    elim c.match-find.branch [
       | in-Some w ↦
           let at = answer-memory (view_of s) durable (g.D.Device.state c.args.device.now) opened (vec_len s.filters) k c.args.key.now (item_of w.in-Some.item) w.show.result c.args.out.now w.show.new.out (sym w.in-Some.ensures.item) (w.show.ensures.version, w.show.ensures.page) in
           rw (w.out-is, c.value_len.ensures, w.version-is) at
@@ -57,7 +57,7 @@ pub returns-clause-stops : goal.returns-clause-stops
 returns-clause-stops g c = λ durable image j opened told holds.
     let s = c.args.self.now in
     let k = s.kept c.requires.up in
-    elim c.match-get.branch [
+    elim c.match-find.branch [
       | in-Some w ↦ rw w.device-is (counts-none _ _)
       | in-None+in_ok-version-in-None w ↦
           let tables_are = w.pile-tables.ensures ∙ ap (λ (t : Trie). (node_at t root).tables) w.trie.ensures.nodes in
@@ -78,7 +78,7 @@ pub returns-clause-seen : goal.returns-clause-seen
 returns-clause-seen g c = λ image told.
     let s = c.args.self.now in
     let v : StoreView = view_of s in
-    elim c.match-get.branch [
+    elim c.match-find.branch [
       | in-Some w ↦
           let seen = memory-seen v image c.args.key.now (item_of w.in-Some.item) (sym w.in-Some.ensures.item) in
           let at = subst (λ (answer : Result (Option Item) LookFault). AnswersSeen w.show.new.out answer (Ok (value_len (Some w.show.result)))) (sym seen)
