@@ -19,8 +19,8 @@ pub fn newest_items(alloc: Global, items: Items<'_>) -> Result<Vec<Item>, NoMemo
 {
     let newest = by_rank(alloc, items)?;
     let mut batch = Vec::with_capacity(alloc, newest.len())?;
-    for (_, item) in newest.iter() {
-        batch.push(Item::copy(alloc, item)?)?;
+    for (rank, item) in newest.iter() {
+        batch.push(Item::with_parts(alloc, item, rank.parts())?)?;
     }
     Ok(batch)
 }
