@@ -2,15 +2,16 @@
 use Rattle.std.proofs.Common.{◌≡◌, ℕ, ◌<◌, refl, sym, ap, subst, ◌∙◌, Bool, true, false, ◌&&◌, cond, List, Option, Some, None, Err, ltb-true, true≢false}
 use Rattle.std.specs.Prelude.{is_some, nat_lt, nat_le, ◌==◌, slice_index}
 use Rattle.std.specs.Option.{option_and_then, option_map}
+use Rattle.std.specs.List.{find}
 use Rattle.std.proofs.lemmas.Bool.{and_parts}
 use Rattle.std.proofs.lemmas.Option.{none-some}
-use Rattle.lt_terms.specs.Bytes.{Image, u32_at}
+use Rattle.lt_terms.specs.Bytes.{Image, same_bytes, u32_at}
 use Rattle.lt_terms.specs.Hashes.{home_column, key_suffix}
 use Rattle.lt_terms.specs.Items.{Item}
 use Rattle.lt_item.specs.declared.hash.Parts.{Parts}
 use Rattle.lt_item.specs.Parts.{parts_of}
 use Rattle.lt_tables.specs.declared.Sends.{Sends}
-use Rattle.lt_tables.specs.Bucket.{Bucket, Look, here, moved, absent, look_of, look_in_1, look_on, sent_to, sends_of, bucket_of_page_1}
+use Rattle.lt_tables.specs.Bucket.{Bucket, Look, here, moved, absent, look_of, look_in_1, look_on, sent_to, sends_on, sends_of, bucket_of_page_1}
 use Rattle.lt_tables.proofs.HashLaws.{home_column-small}
 use Rattle.lt_htable.specs.declared.faults.LookFault.TheVariants.{Damaged}
 use Rattle.lt_htable.specs.Reading.{IsBlockOf, IsSought, IsLookedUp, at_last, at_home, target_of}
@@ -90,3 +91,31 @@ look_on-none page key h = by_bucket (bucket_of_page_1 page) h
     by_bucket : (o : Option Bucket) → is_some o ≡ false → option_map (look_in_1 key) o ≡ None
     by_bucket None h = refl
     by_bucket (Some b) h = absurd (true≢false h)
+
+-- the suffix among the parts of a key
+pub suffix-is : (parts : Parts) (key : List ℕ) → parts ≡ parts_of key → parts.suffix ≡ key_suffix key
+unfolding parts_of
+suffix-is parts key is = ap (λ (p : Parts). p.suffix) is
+
+-- a test of the mark tells whether there is a target
+pub sent_test : (test : Bool) (target : ℕ) → test ≡ is_some (target_of (Some (cond test (moved target) absent)))
+sent_test true target = refl
+sent_test false target = refl
+
+at_unsent : (o : Option Item) (l : Look) → is_some (target_of (Some l)) ≡ false → None ≡ target_of (Some (look_of o l))
+at_unsent (Some v) l h = refl
+at_unsent None (here v) h = refl
+at_unsent None (moved c) h = absurd (true≢false h)
+at_unsent None absent h = refl
+
+-- below the mark no key is sent
+pub unsent : (page key : List ℕ) (sends : Option Sends) (suffix : ℕ) → sends ≡ sends_on page → suffix ≡ key_suffix key → is_some (target_of (Some (sent_to sends suffix))) ≡ false → None ≡ target_of (look_on page key)
+unsent page key sends suffix sends_is suffix_is h =
+    by_bucket (bucket_of_page_1 page)
+    (ap (λ (s : Option Sends). is_some (target_of (Some (sent_to s (key_suffix key))))) (sym sends_is)
+    ∙ ap (λ n. is_some (target_of (Some (sent_to sends n)))) (sym suffix_is)
+    ∙ h)
+  where
+    by_bucket : (o : Option Bucket) → is_some (target_of (Some (sent_to (option_and_then (λ (b : Bucket). b.sends) o) (key_suffix key)))) ≡ false → None ≡ target_of (option_map (look_in_1 key) o)
+    by_bucket None h = refl
+    by_bucket (Some b) h = at_unsent (find (λ (item : Item). same_bytes item.key key) b.items) (sent_to b.sends (key_suffix key)) h

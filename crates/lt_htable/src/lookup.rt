@@ -1,7 +1,7 @@
 //! Looking a key up in a table.
 
 ghost use Rattle.std.specs.Prelude.{◌≡◌, ℕ, ◌+◌, ◌<◌, ◌≤◌, List, Some, None, Ok, MatchResult, IfOk, IfErr};
-ghost use Rattle.std.specs.Prelude.{IsErr, IsErrOf};
+ghost use Rattle.std.specs.Prelude.{IsErr, IsErrOf, IfSome, is_some};
 ghost use Rattle.std.specs.Option.{ForSome, option_map};
 ghost use Rattle.lt_terms.specs.Bytes.{Image, block_at};
 ghost use Rattle.lt_terms.specs.Hashes.{home_column};
@@ -9,7 +9,7 @@ ghost use Rattle.lt_terms.specs.Causes.{Rose};
 ghost use Rattle.lt_device.specs.Reads.{CountsAtMost};
 ghost use Rattle.lt_terms.specs.Items as terms;
 ghost use Rattle.lt_item.specs.Views.{item_of};
-ghost use Rattle.lt_tables.specs.Bucket.{look_on};
+ghost use Rattle.lt_tables.specs.Bucket.{bucket_of, look_on, sent_to};
 ghost use Rattle.lt_tables.specs.Merge.{newest_of};
 ghost use Rattle.lt_tables.specs.Table.{blocks_from, IsPlaced};
 ghost use Rattle.lt_bucket.specs.Looks.{look_of};
@@ -18,7 +18,7 @@ ghost use Rattle.lt_htable.specs.Reading.{AnswersLook, IsSought, at_last, target
 
 use super::extent::block_in;
 use super::faults::LookFault;
-use lt_bucket::{BucketView, Look};
+use lt_bucket::{BucketView, Look, Sends};
 use lt_device::Device;
 use lt_item::{ItemView, Parts};
 use lt_page::Page;
@@ -53,11 +53,11 @@ pub fn look<'p, D: Device>(
         → target_of (look_on (block_at image (first + home_column key.now)) key.now) ≡ None
         → CountsAtMost 1 (D.reads device.old) (D.reads device.new) }
 {
-    let block = seek(device, first, key, parts, page)?;
-    match BucketView::of(page) {
-        Some(bucket) => Ok(found(bucket.find(key, parts))),
-        None => Err(LookFault::Damaged(block)),
+    let sought = seek(device, first, key, parts, page)?;
+    if !sought.spells {
+        return Err(LookFault::Damaged(sought.block));
     }
+    Ok(found(BucketView::known(page).find(key, parts)))
 }
 
 fn found<'a>(look: Look<'a>) -> Option<ItemView<'a>>
@@ -69,18 +69,27 @@ fn found<'a>(look: Look<'a>) -> Option<ItemView<'a>>
     }
 }
 
-/// Reads the bucket that answers on a key onto the page, and answers its block: that of the home column
-/// or, where this says that the key was sent, of the target.
+/// A block that was read, and whether its page spells a bucket.
+#[derive(Clone, Copy)]
+struct Sought {
+    block: u64,
+    spells: bool,
+}
+
+/// Reads the bucket that answers on a key onto the page: that of the home column or, where this says
+/// that the key was sent, of the target. It decodes each page that it reads, once.
 fn seek<D: Device>(
     device: &mut D,
     first: u64,
     key: &[u8],
     parts: &Parts,
     page: &mut Page,
-) -> Result<u64, LookFault>
+) -> Result<Sought, LookFault>
     requires within { first + 65 ≤ D.blocks device.old }
     requires parts { parts.now ≡ parts_of key.now }
-    ensures sought { IfOk result (λ block. IsSought (D.state device.old).shown first key.now block page.new) }
+    ensures sought { IfOk result (λ sought.
+        IsSought (D.state device.old).shown first key.now sought.block page.new) }
+    ensures spells { IfOk result (λ sought. sought.spells ≡ is_some (bucket_of page.new)) }
     ensures only_device { IfErr result (λ fault. fault ≡ LookFault.Device) }
     ensures cause { IsErr result → Rose (D.faults device.old) (D.faults device.new) }
     ensures later { D.faults device.old ≤ D.faults device.new }
@@ -94,23 +103,47 @@ fn seek<D: Device>(
     let home = block_in(device, first, parts.column);
     device.read(home, page)?;
     match target(page, key, parts) {
-        None => Ok(home),
-        Some(target) => {
+        None => Ok(Sought {
+            block: home,
+            spells: false,
+        }),
+        Some(None) => Ok(Sought {
+            block: home,
+            spells: true,
+        }),
+        Some(Some(target)) => {
             let block = block_in(device, first, target);
             device.read(block, page)?;
-            Ok(block)
+            let spells = BucketView::of(page).is_some();
+            Ok(Sought { block, spells })
         }
     }
 }
 
-/// The column that a key was sent to, where the page says so.
-fn target(page: &Page, key: &[u8], parts: &Parts) -> Option<u8>
+/// The column that a key was sent to, where the page says so. `None` where it spells no bucket. The
+/// key is searched for only where it may have been sent.
+fn target(page: &Page, key: &[u8], parts: &Parts) -> Option<Option<u8>>
     requires { parts.now ≡ parts_of key.now }
-    ensures target { result ≡ target_of (look_on page.now key.now) }
-    ensures column { ForSome result (λ column. column < 64) }
+    ensures spelled { is_some result ≡ is_some (bucket_of page.now) }
+    ensures target { IfSome result (λ target. target ≡ target_of (look_on page.now key.now)) }
+    ensures column { IfSome result (λ target. ForSome target (λ column. column < 64)) }
 {
-    match BucketView::of(page)?.find(key, parts) {
-        Look::Moved(target) => Some(target),
-        _ => None,
+    let bucket = BucketView::of(page)?;
+    if !is_sent(bucket.sends(), parts.suffix) {
+        return Some(None);
+    }
+    match bucket.find(key, parts) {
+        Look::Moved(target) => Some(Some(target)),
+        _ => Some(None),
+    }
+}
+
+/// Whether keys of this suffix are sent.
+fn is_sent(sends: Option<Sends>, suffix: u32) -> bool
+    ensures { result ≡ is_some (target_of (Some (sent_to sends suffix))) }
+{
+    match sends {
+        Some(sends) => sends.mark <= suffix,
+        None => false,
     }
 }
