@@ -133,7 +133,7 @@ fn spoil(
 ) -> Result<(), NoMemory> {
     let mut page = Page::new(alloc)?;
     if block < device.blocks()
-        && device.is_clean()
+        && device.is_synced()
         && at < Page::LEN
         && bytes.len() <= Page::LEN - at
     {
@@ -335,7 +335,7 @@ fn a_manifest_that_does_not_stand_is_named(rt: HostRuntime) -> Result<(), NoMemo
     let whole = made(alloc)?;
     let mut short = MemDevice::new(alloc, BLOCKS - 1, CALLS, Vec::new(alloc), None)?;
     for block in 0..BLOCKS {
-        if block < whole.blocks() && block < short.blocks() && short.is_clean() {
+        if block < whole.blocks() && block < short.blocks() && short.is_synced() {
             short.patch(block, whole.page(block));
         }
     }
