@@ -92,7 +92,7 @@ fn a_group_takes_64_writes_and_no_sync(rt: HostRuntime) -> Result<(), Fail> {
         Ok(())
     );
     assert_eq!(rt; device.calls(), 64);
-    assert!(rt; !device.is_clean());
+    assert!(rt; !device.is_synced());
     Ok(())
 }
 
