@@ -4,13 +4,16 @@
 
 mod memory;
 mod plain;
+mod plain_look;
 #[cfg(test)]
 mod plain_place;
 mod sample;
+mod stored;
 
 use lt_balance::{are_entries, cut};
+use lt_device::{Device, Steady};
 use lt_mem::MemTable;
-use lt_page::NoMemory;
+use lt_page::{NoMemory, Page};
 use memory::{found_in_map, found_in_table};
 use plain::plain_cut;
 use sample::sample_entries;
@@ -18,6 +21,7 @@ use std::collections::HashMap;
 use std::rt::Clock;
 use std::time::Instant;
 use std::{env, io};
+use stored::{decoded, found_stored, plain_decoded, plain_found_stored, store, stored_items};
 
 /// As many items as a memory table holds at most.
 const ENTRIES: u32 = 40_000;
@@ -30,6 +34,8 @@ fn main(rt: HostRuntime) -> io::Result<()> {
         match word.as_str() {
             "cut" => time_cut(&rt)?,
             "memory" => time_memory(&rt)?,
+            "decode" => time_decode(&rt)?,
+            "get" => time_get(&rt)?,
             _ => (),
         }
     }
@@ -76,6 +82,58 @@ fn time_memory<R: Clock + Print + AllocGlobal>(rt: &R) -> io::Result<()> {
     }
     let percent = table_time.as_nanos() * 100 / map_time.as_nanos().max(1);
     println!(rt; "memory: {found} keys, the table takes {percent} hundredths of the map's time")
+}
+
+/// Prints how many times as long it takes to decode a half-empty bucket with its zeros tested byte by byte.
+fn time_decode<R: Clock + Print + AllocGlobal>(rt: &R) -> io::Result<()> {
+    let mut device = Steady::new(rt.alloc(), 65).map_err(no_memory)?;
+    let mut page = Page::new(rt.alloc()).map_err(no_memory)?;
+    let items = stored_items(rt.alloc()).map_err(no_memory)?;
+    if store(rt.alloc(), &mut device, &items).is_err() || device.blocks() == 0 {
+        return println!(rt; "decode: no table");
+    }
+    if device.read(0, &mut page).is_err() {
+        return println!(rt; "decode: no bucket");
+    }
+
+    let start = Instant::now(rt)?;
+    let spelled = decoded(&page);
+    let time = start.elapsed(rt)?;
+
+    let start = Instant::now(rt)?;
+    let plain_spelled = plain_decoded(&page);
+    let plain_time = start.elapsed(rt)?;
+
+    if spelled != plain_spelled {
+        return println!(rt; "decode: the answers differ");
+    }
+    let percent = plain_time.as_nanos() * 100 / time.as_nanos().max(1);
+    println!(rt; "decode: {spelled} buckets, byte by byte takes {percent} hundredths of the time")
+}
+
+/// Prints how many times as long gets of stored keys take where a key is hashed and its bucket decoded twice.
+fn time_get<R: Clock + Print + AllocGlobal>(rt: &R) -> io::Result<()> {
+    let memory = MemTable::new(rt.alloc()).map_err(no_memory)?;
+    let mut device = Steady::new(rt.alloc(), 65).map_err(no_memory)?;
+    let mut page = Page::new(rt.alloc()).map_err(no_memory)?;
+    let items = stored_items(rt.alloc()).map_err(no_memory)?;
+    let Ok(filters) = store(rt.alloc(), &mut device, &items) else {
+        return println!(rt; "get: no table");
+    };
+
+    let start = Instant::now(rt)?;
+    let found = found_stored(&memory, &filters, &mut device, &mut page);
+    let time = start.elapsed(rt)?;
+
+    let start = Instant::now(rt)?;
+    let plain_found = plain_found_stored(&memory, &filters, &mut device, &mut page);
+    let plain_time = start.elapsed(rt)?;
+
+    if found != plain_found {
+        return println!(rt; "get: the finds differ");
+    }
+    let percent = plain_time.as_nanos() * 100 / time.as_nanos().max(1);
+    println!(rt; "get: {found} found, the form before takes {percent} hundredths of the time")
 }
 
 fn no_memory(_: NoMemory) -> io::Error {
