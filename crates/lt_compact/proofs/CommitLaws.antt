@@ -11,7 +11,7 @@ use Rattle.lt_language.specs.Machine.{State}
 use Rattle.lt_tables.specs.Bucket.{bucket_of}
 use Rattle.lt_tables.specs.Group.{group_block}
 use Rattle.lt_tables.specs.Table.{IsPlaced}
-use Rattle.lt_tables.proofs.ListLaws.{all_take, all_drop}
+use Rattle.lt_tables.proofs.ListLaws.{all_take, all_drop, all_left, all_right}
 use Rattle.lt_format.specs.declared.geometry.Geometry.{Geometry}
 use Rattle.lt_format.specs.declared.header.Header.{Header}
 use Rattle.lt_format.specs.declared.node_id.NodeId.{NodeId}
@@ -26,7 +26,6 @@ use Rattle.lt_image.specs.Soundness.{filter_blocks}
 use Rattle.lt_image.specs.Standing.{Stands}
 use Rattle.lt_image.specs.Versions.{extent_in, pile_items}
 use Rattle.lt_image.proofs.JobCountLaws.{deal-committed, rewrite-committed}
-use Rattle.lt_image.proofs.ListLaws.{all_left, all_right}
 use Rattle.lt_image.proofs.MapLaws.{named-tables}
 use Rattle.lt_image.proofs.ShareLaws.{shares-behind}
 use Rattle.lt_compact.specs.Plans.{Holds, all_contents, all_given, are_shared, change_for, extents_for, rewriting, children_shared, is_own}
