@@ -11,7 +11,7 @@ use Rattle.lt_language.specs.Machine.{State}
 use Rattle.lt_tables.specs.Bucket.{bucket_of}
 use Rattle.lt_tables.specs.Group.{group_block}
 use Rattle.lt_tables.specs.Table.{IsPlaced}
-use Rattle.lt_tables.proofs.ListLaws.{all_take, all_drop, all_left, all_right}
+use Rattle.lt_tables.proofs.ListLaws.{all_take, all_drop, all_left, all_right, all_join}
 use Rattle.lt_format.specs.declared.geometry.Geometry.{Geometry}
 use Rattle.lt_format.specs.declared.header.Header.{Header}
 use Rattle.lt_format.specs.declared.node_id.NodeId.{NodeId}
@@ -61,10 +61,6 @@ group_same g old new pile p same_pile same is =
 groups_same : (g : Geometry) (old new : Image) (pile xs : List ℕ) (j : ℕ) → SameExtents g old new pile → SameExtents g old new xs → AllByRecursion (IsGroupAt g old pile) (enumerate_from j xs) → AllByRecursion (IsGroupAt g new pile) (enumerate_from j xs)
 groups_same g old new pile [] j same_pile same all = tt
 groups_same g old new pile (x ∷ xs) j same_pile same all = (group_same g old new pile (j, x) same_pile same.0 all.0, groups_same g old new pile xs (j + 1) same_pile same.1 all.1)
-
-pub all_join : {A : Type 0} (P : A → Type 0) (xs ys : List A) → AllByRecursion P xs → AllByRecursion P ys → AllByRecursion P (xs ++ ys)
-all_join P [] ys a b = b
-all_join P (x ∷ xs) ys a b = (a.0, all_join P xs ys a.1 b)
 
 -- what a node got it has where its extents are as before
 pub gets-same : (g : Geometry) (old new : Image) (c : ChildChange) (s : Share) → SameExtents g old new s.behind → SameExtents g old new (c.tables ++ c.groups) → Gets g old c s → Gets g new c s

@@ -6,7 +6,7 @@ use Rattle.std.proofs.Math.Seq.{take-append-add}
 use Rattle.std.proofs.lemmas.Bool.{cases_Bool, leb-true, leb-false}
 use Rattle.std.proofs.lemmas.List.{length-map, take-append-le}
 use Rattle.lt_terms.specs.Bytes.{Image}
-use Rattle.lt_tables.proofs.ListLaws.{all_take}
+use Rattle.lt_tables.proofs.ListLaws.{all_take, all_join}
 use Rattle.lt_format.specs.declared.geometry.Geometry.{Geometry}
 use Rattle.lt_format.specs.declared.node_id.NodeId.{NodeId}
 use Rattle.lt_format.specs.Naming.{Named}
@@ -16,7 +16,6 @@ use Rattle.lt_image.specs.Shares.{Share, kept_groups, new_groups, share_extents,
 use Rattle.lt_image.proofs.KeptLaws.{pile_same}
 use Rattle.lt_compact.specs.Plans.{Content, table, group, Holds, contents, all_contents, are_shared}
 use Rattle.lt_compact.specs.Jobs.{filling, KeepsStage}
-use Rattle.lt_compact.proofs.CommitLaws.{all_join}
 use Rattle.lt_compact.proofs.LocalLaws.{SameContent, all_hold_same, tables_same, groups_same, behind_shared}
 use Rattle.lt_compact.proofs.PlanLaws.{length-contents}
 

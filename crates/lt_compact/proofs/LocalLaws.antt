@@ -12,7 +12,7 @@ use Rattle.lt_tables.specs.Group.{group_block}
 use Rattle.lt_tables.specs.Cut.{cut}
 use Rattle.lt_tables.specs.Merge.{newest, without_deletes}
 use Rattle.lt_tables.proofs.NewestLaws.{newest-newest}
-use Rattle.lt_tables.proofs.ListLaws.{all_take, all_drop}
+use Rattle.lt_tables.proofs.ListLaws.{all_take, all_drop, all_join}
 use Rattle.lt_format.specs.declared.geometry.Geometry.{Geometry}
 use Rattle.lt_format.specs.declared.node_id.NodeId.{NodeId}
 use Rattle.lt_format.specs.Changes.{flush, after_change}
@@ -29,7 +29,7 @@ use Rattle.lt_image.proofs.MapLaws.{named-tables}
 use Rattle.lt_compact.specs.Plans.{Content, table, group, Holds, contents, all_contents, are_shared, children_shared, is_own, extents_for}
 use Rattle.lt_image.specs.Needs.{is_slack, node_items, waits}
 use Rattle.lt_compact.specs.Jobs.{is_loose, JobView, Stage, scanning, planned, filling, taken_in, is_shaped_stage, IsShaped, KeepsJob, KeepsStage}
-use Rattle.lt_compact.proofs.CommitLaws.{placed_same, filters_same, all_join}
+use Rattle.lt_compact.proofs.CommitLaws.{placed_same, filters_same}
 use Rattle.lt_compact.proofs.PlanLaws.{own-one}
 
 -- ---- what extents hold

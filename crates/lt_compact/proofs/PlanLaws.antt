@@ -18,6 +18,7 @@ use Rattle.lt_format.proofs.TrieLaws.{same_node-same}
 use Rattle.lt_image.specs.After.{PlacedIn, IsGroupAt, Gets}
 use Rattle.lt_image.specs.Shares.{Share, kept_groups, new_groups, share_extents, rewrite_share}
 use Rattle.lt_compact.specs.Plans.{Content, table, group, Holds, extents_for, given_by, all_given, contents, all_contents, rewriting, children_shared, is_own}
+use Rattle.lt_format.proofs.FreeLaws.{no_list}
 
 -- ---- lists side by side
 
@@ -154,15 +155,11 @@ pub record IsOwn (id : NodeId) (shares : List Share) : Type 0 where
   pub node : share.node ≡ id
   pub behind : share.behind ≡ []
 
-no_tables : (xs : List ℕ) → (length xs == 0) ≡ true → xs ≡ []
-no_tables [] h = refl
-no_tables (x ∷ xs) h = let e : length (x ∷ xs) ≡ 0 = eqb-true (length (x ∷ xs)) 0 h in absurd (omega arith)
-
 pub own-one : (id : NodeId) (shares : List Share) → is_own id shares ≡ true → IsOwn id shares
 own-one id [] h = absurd (true≢false (sym h))
 own-one id (s ∷ []) h =
     let parts = and_parts (same_node s.node id) (length s.behind == 0) h in
-    record { share = s; one = refl; node = same_node-same s.node id parts.0; behind = no_tables s.behind parts.1 }
+    record { share = s; one = refl; node = same_node-same s.node id parts.0; behind = no_list s.behind parts.1 }
 own-one id (s ∷ t ∷ shares) h = absurd (true≢false (sym h))
 
 pub own_first : (levels : ℕ) (s : Share) (numbers : List ℕ) → length numbers ≡ extents_for levels (s ∷ []) → take (share_extents levels s) numbers ≡ numbers

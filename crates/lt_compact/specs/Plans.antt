@@ -43,13 +43,16 @@ given_by levels s numbers = record {
 abbrev pub all_given : ℕ → List Share → List ℕ → List ChildChange
 all_given levels [] numbers = []
 all_given levels (s ∷ shares) numbers =
-    given_by levels s (take (share_extents levels s) numbers) ∷ all_given levels shares (drop (share_extents levels s) numbers)
+    given_by levels s (take (share_extents levels s) numbers)
+    ∷ all_given levels shares (drop (share_extents levels s) numbers)
 
 -- what the extents of a share are to hold
 abbrev pub contents : ℕ → Share → List ℕ → List Content
 contents levels s numbers =
     let pile = s.behind ++ take (length s.parts) numbers in
-    map table s.parts ++ map (λ j. group (slice_range pile (64 * j) (64 * j + 64))) (range_with_len (kept_groups levels s) (new_groups levels s))
+    map table s.parts
+    ++ map (λ j. group (slice_range pile (64 * j) (64 * j + 64)))
+    (range_with_len (kept_groups levels s) (new_groups levels s))
 
 -- what the extents of all shares are to hold, one share after another
 abbrev pub all_contents : ℕ → List Share → List ℕ → List Content
