@@ -1,7 +1,7 @@
 -- Extents are seen as a list that says of each number whether it is taken.
 use Rattle.std.specs.Prelude.{◌≡◌, ◌≢◌, ℕ, ◌<◌, Bool, true, not, ◌&&◌, List, ◌++◌, length, All, AllPairs, count_by}
 use Rattle.std.specs.Prelude.{IsTrue, slice_index_or}
-use Rattle.lt_terms.specs.Numbers.{is_in}
+use Rattle.lt_terms.specs.Bytes.{is_in}
 
 -- this is the number of an extent, and it is free
 abbrev pub is_free : List Bool → ℕ → Bool

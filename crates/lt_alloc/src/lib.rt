@@ -4,6 +4,3 @@
 mod extents;
 
 pub use extents::{Extents, Short};
-
-#[cfg(test)]
-mod tests;

@@ -11,6 +11,3 @@ pub use entries::{are_entries, parts_are_entries};
 pub use lt_tables::{ColumnPlan, Entry};
 pub use plans::{Placement, place};
 pub use tables::cut;
-
-#[cfg(test)]
-mod tests;

@@ -87,7 +87,9 @@ fn receiver(columns: &[Column; COLUMNS], rooms: &[u64; COLUMNS]) -> Option<u8>
 /// Where each column that sends sends to, in the order in which they choose. None where one finds
 /// no room.
 pub(crate) fn sendings_of(columns: &[Column; COLUMNS]) -> Option<ArrayVec<Sending, COLUMNS>>
-    ensures { (es : List Entry) → AreColumns es columns.now → MatchOption result (sendings es (senders es) [] ≡ None) (λ made. sendings es (senders es) [] ≡ Some made.items) }
+    ensures { (es : List Entry) → AreColumns es columns.now
+        → MatchOption result (sendings es (senders es) [] ≡ None)
+        (λ made. sendings es (senders es) [] ≡ Some made.items) }
 {
     let order = senders_of(columns);
     let mut rooms = first_rooms(columns);

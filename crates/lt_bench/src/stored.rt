@@ -1,7 +1,7 @@
 //! A table on a device in memory, and gets of its keys.
 
 ghost use Rattle.std.specs.Prelude.{◌≡◌, IfOk};
-ghost use Rattle.lt_tables.specs.Merge.{newest};
+ghost use Rattle.lt_tables.specs.Table.{newest};
 
 use crate::plain_look::{plain_bucket, plain_get};
 use lt_balance::{are_entries, place};

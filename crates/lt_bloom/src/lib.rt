@@ -5,6 +5,3 @@ mod bits;
 mod filters;
 
 pub use filters::{FilterPage, covers_at};
-
-#[cfg(test)]
-mod tests;

@@ -14,7 +14,8 @@ items_in count bytes = unwrap_or (items_of count bytes) []
 abbrev pub items_area : List ℕ → Option (List ℕ)
 items_area page =
     let used = u16_at page 2 in
-    if nat_le used capacity && slice_index page 10 == 1 && all_zero (slice_range page 11 16) && all_zero (drop (16 + used) page)
+    if nat_le used capacity && slice_index page 10 == 1 && all_zero (slice_range page 11 16)
+    && all_zero (drop (16 + used) page)
     then Some (slice_range page 16 (16 + used))
     else None
 

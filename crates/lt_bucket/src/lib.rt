@@ -11,6 +11,3 @@ pub use lt_tables::Sends;
 pub use owned::{Item, Key, push_all};
 pub use reading::Items;
 pub use view::{BucketView, Look};
-
-#[cfg(test)]
-mod tests;

@@ -3,12 +3,13 @@ use Rattle.std.proofs.Common.{◌≡◌, ◌⊎◌, ℕ, ◌≤◌, refl, sym, s
 use Rattle.lt_terms.specs.Causes.{Rose, HasCause}
 use Rattle.lt_page.specs.declared.errors.Failed.{Failed}
 use Rattle.lt_device.specs.State as told
-use Rattle.lt_io.specs.Sink.{Gains, GainsFront}
+use Rattle.lt_io.specs.Streams.{Gains, GainsFront}
 use Rattle.lt_io.proofs.Flows.{Gains-none, Gains-more, GainsFront-more}
-use Rattle.lt_serve.specs.Serving.{GainsSome}
-use Rattle.lt_serve.specs.Promise.{FoundByGet}
+use Rattle.lt_serve.specs.Promise.{FoundByGet, GainsSome, ServesSeen, Sight}
+use Rattle.lt_serve.specs.declared.served.Served.{Served}
+use Rattle.lt_serve.specs.declared.served.Served.TheVariants as ends
 use Rattle.lt_store.specs.Promise.{StopsOpening}
-use Rattle.lt_cli.specs.Promise.{FoundDamage, Tells, damage_line}
+use Rattle.lt_cli.specs.Promise.{FoundDamage, RunSeen, Tells, damage_line, status_of}
 
 module _ (stands0 stands1 stands : List ℕ → Type 0) (faults0 faults1 faults : ℕ) (line shown : List ℕ) (gained : Gains stands0 stands1 shown) (later : faults0 ≤ faults1) where
   -- a front of the line was told behind what was shown
@@ -52,3 +53,32 @@ tells-damage stands0 stands1 stands faults0 faults1 faults block b r same none l
       front = told-front stands0 stands1 stands faults0 faults1 faults (damage_line block) [] gained later r all front;
       whole = told-whole stands0 stands1 stands faults0 faults1 faults (damage_line block) [] gained later r all cause;
     })
+
+-- what was served, where no block is named as damaged
+pub run-seen : (sight : Sight) (served : Served) (left0 left : Option (List ℕ)) (stands0 stands : List ℕ → Type 0) → ServesSeen sight served left0 left stands0 stands → ((b : ℕ) → served ≡ ends.Damaged b → ⊥) → RunSeen sight (status_of served) left0 left stands0 stands
+run-seen sight served left0 left stands0 stands s sound = record {
+  ended = served;
+  is = refl;
+  taken = s.taken;
+  takes = s.takes;
+  shown = s.shown;
+  seen = s.seen;
+  gained = λ other. s.gained;
+  told = λ b is. absurd (sound b is);
+}
+
+-- and where one is
+pub damage-seen : (sight : Sight) (block : ℕ) (left0 left : Option (List ℕ)) (stands0 stands1 stands : List ℕ → Type 0) (faults0 faults1 : ℕ) (r : Result (Unit {0}) Failed) → ServesSeen sight (ends.Damaged block) left0 left stands0 stands1 → faults0 ≤ faults1
+    → OnOk r (Gains stands1 stands (damage_line block)) → OnErr r (GainsFront stands1 stands (damage_line block)) → RunSeen sight (status_of (ends.Damaged block)) left0 left stands0 stands
+damage-seen sight block left0 left stands0 stands1 stands faults0 faults1 r s later all front = record {
+  ended = ends.Damaged block;
+  is = refl;
+  taken = s.taken;
+  takes = s.takes;
+  shown = s.shown;
+  seen = s.seen;
+  gained = λ other. absurd (other refl);
+  told = λ b is.
+      let one : block ≡ b = cc (is) in
+      subst (λ (n : ℕ). GainsFront stands0 stands (s.shown ++ damage_line n)) one (told-front stands0 stands1 stands faults0 faults1 faults1 (damage_line block) s.shown s.gained later r all front);
+}

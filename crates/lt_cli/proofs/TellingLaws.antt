@@ -1,9 +1,9 @@
 -- Lines that are given to a sink in parts.
 use Rattle.std.proofs.Common.{◌≡◌, ℕ, refl, sym, subst, ◌∙◌, List, [], ◌∷◌, ◌++◌, append_assoc, append-nil}
 use Rattle.std.specs.Prelude.{codes}
-use Rattle.lt_language.specs.Lines.{line_feed}
+use Rattle.lt_language.specs.Commands.{line_feed}
 use Rattle.lt_language.specs.Replies.{spaced}
-use Rattle.lt_io.specs.Sink.{Gains, GainsFront}
+use Rattle.lt_io.specs.Streams.{Gains, GainsFront}
 use Rattle.lt_cli.specs.Promise.{damage_line, small_line}
 use Rattle.lt_io.proofs.Flows.{Gains-more, GainsFront-more, GainsFront-longer}
 

@@ -10,19 +10,19 @@ use Rattle.lt_cli.specs.declared.words.Task.TheVariants.{Run, Init}
 use Rattle.lt_serve.specs.declared.served.Served.{Served}
 use Rattle.lt_serve.specs.declared.served.Served.TheVariants as served
 use Rattle.lt_cli.specs.declared.status.Status.{Status}
-use Rattle.lt_cli.specs.declared.status.Status.TheVariants.{Done, Words, SourceFault, SinkFault, DeviceFault}
-use Rattle.lt_cli.specs.declared.status.Status.TheVariants.{Damaged, Refused, NoMemory, Turns}
+use Rattle.lt_cli.specs.declared.status.Status.TheVariants.{Done, Words, SourceFault, SinkFault, DeviceFault, Damaged}
+use Rattle.lt_cli.specs.declared.status.Status.TheVariants.{Refused, NoMemory, Turns}
 use Rattle.lt_terms.specs.Causes.{Rose}
-use Rattle.lt_language.specs.Lines.{line_feed}
+use Rattle.lt_language.specs.Commands.{line_feed}
 use Rattle.lt_language.specs.Replies.{spaced}
-use Rattle.lt_io.specs.Sink.{Gains, GainsFront}
+use Rattle.lt_io.specs.Streams.{Gains, GainsFront, Takes}
 use Rattle.std.specs.Option.{ForSome}
 use Rattle.lt_terms.specs.Bytes.{block_at, zero_block}
 use Rattle.lt_device.specs.State as told
 use Rattle.lt_format.specs.declared.geometry.Geometry.{Geometry}
 use Rattle.lt_store.specs.Promise.{IsFresh, IsOccupied, IsVacant, StopsOpening}
 use Rattle.lt_language.specs.Machine.{State}
-use Rattle.lt_serve.specs.Promise.{IsSound, TurnedOver, FoundByGet}
+use Rattle.lt_serve.specs.Promise.{AnswersSeen, IsSound, Sight, TurnedOver, FoundByGet}
 
 -- `run`
 abbrev pub IsRun : List (String Global) → Type 0
@@ -159,3 +159,16 @@ pub record FoundDamage (left0 left : Option (List ℕ)) (stands0 stands : List �
 pub record Unopened (block : ℕ) (status : Status) (stands0 stands : List ℕ → Type 0) (faults0 faults : ℕ) : Type 0 where
   pub is : IsUnopenedEnd status
   pub told : status ≡ Damaged → Tells stands0 stands faults0 faults (damage_line block)
+
+-- A run on a device whose blocks open: what was taken of the source was answered by what is seen of the keys, and the
+-- sink took these answers. Behind them it took a front of the line of the damaged block, where one is named.
+pub record RunSeen (sight : Sight) (status : Status) (left0 left : Option (List ℕ)) (stands0 stands : List ℕ
+    → Type 0) : Type 0 where
+  pub ended : Served
+  pub is : status ≡ status_of ended
+  pub taken : List ℕ
+  pub takes : Takes left0 left taken
+  pub shown : List ℕ
+  pub seen : AnswersSeen sight ended taken shown
+  pub gained : (status ≡ Damaged → ⊥) → Gains stands0 stands shown
+  pub told : (b : ℕ) → ended ≡ served.Damaged b → GainsFront stands0 stands (shown ++ damage_line b)

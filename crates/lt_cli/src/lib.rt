@@ -11,6 +11,3 @@ mod words;
 pub use status::Status;
 pub use top::lsm_trie;
 pub use words::{Task, task_of};
-
-#[cfg(test)]
-mod tests;

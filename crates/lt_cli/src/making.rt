@@ -28,14 +28,15 @@ pub(super) fn make<K: Sink, D: Device>(
     ensures made { result ≡ Status.Done
         → IsMade (record { levels = levels; slots = slots }) extents (D.blocks device.old) (D.state device.old)
         (D.state device.new) }
-    ensures small { D.blocks device.old < blocks_needed (record { levels = levels; slots = slots }) extents
-        → result ≡ Status.Refused }
+    ensures small { D.blocks device.old
+        < blocks_needed (record { levels = levels; slots = slots }) extents → result ≡ Status.Refused }
     ensures refused { result ≡ Status.Refused
         → IsRefused (record { levels = levels; slots = slots }) extents (D.blocks device.old) (K.stands sink.old)
         (K.stands sink.new) (K.faults sink.old) (K.faults sink.new) (D.state device.old) (D.state device.new) }
     ensures spared { IsSpared (D.state device.old) (D.state device.new) }
     ensures quiet { (result ≡ Status.Refused → ⊥) → sink.new ≡ sink.old }
-    ensures device { result ≡ Status.DeviceFault → Rose (D.faults device.old) (D.faults device.new) }
+    ensures device { result ≡ Status.DeviceFault
+        → Rose (D.faults device.old) (D.faults device.new) }
 {
     match init(alloc, device, extents, levels, slots) {
         Ok(()) => Status::Done,

@@ -9,22 +9,20 @@ use Rattle.lt_terms.specs.Bytes.{Image}
 use Rattle.lt_terms.specs.Items.{Item}
 use Rattle.lt_language.specs.Machine.{State}
 use Rattle.lt_tables.specs.Bucket.{bucket_of}
-use Rattle.lt_tables.specs.Group.{group_block}
+use Rattle.lt_tables.specs.Filter.{group_block}
 use Rattle.lt_tables.specs.Table.{IsPlaced}
 use Rattle.lt_tables.proofs.ListLaws.{all_take, all_drop, all_left, all_right, all_join}
 use Rattle.lt_format.specs.declared.geometry.Geometry.{Geometry}
 use Rattle.lt_format.specs.declared.header.Header.{Header}
 use Rattle.lt_format.specs.declared.node_id.NodeId.{NodeId}
 use Rattle.lt_format.specs.Changes.{Change, ChildChange, deal, rewrite, fits, are_new, new_extents, shape_fits}
-use Rattle.lt_format.specs.Naming.{Named, may_commit, after_commit}
+use Rattle.lt_format.specs.Snapshot.{Named, may_commit, after_commit}
 use Rattle.lt_format.specs.Trie.{Trie, node_at, named, is_last_level, IsTrie}
 use Rattle.lt_format.proofs.ShapeLaws.{node_at-node}
 use Rattle.lt_image.specs.After.{SameExtent, SameExtents, PlacedIn, IsGroupAt, Gets}
-use Rattle.lt_image.specs.Opening.{Opened, open_image}
+use Rattle.lt_image.specs.Versions.{Opened, open_image, extent_in, pile_items}
 use Rattle.lt_image.specs.Shares.{Share, deal_shares, rewrite_share, shares_of}
-use Rattle.lt_image.specs.Soundness.{filter_blocks}
-use Rattle.lt_image.specs.Standing.{Stands}
-use Rattle.lt_image.specs.Versions.{extent_in, pile_items}
+use Rattle.lt_image.specs.Standing.{filter_blocks, Stands}
 use Rattle.lt_image.proofs.JobCountLaws.{deal-committed, rewrite-committed}
 use Rattle.lt_image.proofs.MapLaws.{named-tables}
 use Rattle.lt_image.proofs.ShareLaws.{shares-behind}

@@ -9,7 +9,7 @@ use Rattle.lt_terms.specs.Bytes.{Image}
 use Rattle.lt_tables.proofs.ListLaws.{all_take, all_join}
 use Rattle.lt_format.specs.declared.geometry.Geometry.{Geometry}
 use Rattle.lt_format.specs.declared.node_id.NodeId.{NodeId}
-use Rattle.lt_format.specs.Naming.{Named}
+use Rattle.lt_format.specs.Snapshot.{Named}
 use Rattle.lt_format.specs.Trie.{named}
 use Rattle.lt_image.specs.After.{SameExtent, SameExtents}
 use Rattle.lt_image.specs.Shares.{Share, kept_groups, new_groups, share_extents, shares_of}
@@ -74,7 +74,7 @@ share_front g old new levels s numbers k behind same = ⊎_elim
     (either k (length s.parts))
 
 -- of all shares
-front_same : (g : Geometry) (old new : Image) (levels : ℕ) (shares : List Share) (numbers : List ℕ) (k : ℕ) → AllByRecursion (λ (s : Share). SameExtents g old new s.behind) shares → SameExtents g old new (take k numbers) → AllByRecursion (SameContent g old new) (take k (all_contents levels shares numbers))
+pub front_same : (g : Geometry) (old new : Image) (levels : ℕ) (shares : List Share) (numbers : List ℕ) (k : ℕ) → AllByRecursion (λ (s : Share). SameExtents g old new s.behind) shares → SameExtents g old new (take k numbers) → AllByRecursion (SameContent g old new) (take k (all_contents levels shares numbers))
 front_same g old new levels [] numbers k behind same = all_take (SameContent g old new) k [] tt
 front_same g old new levels (s ∷ shares) numbers k behind same = ⊎_elim
     (λ (small : k ≤ e).

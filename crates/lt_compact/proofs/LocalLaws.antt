@@ -8,15 +8,15 @@ use Rattle.std.proofs.lemmas.Bool.{and_parts, and_from, eqb-true, lt-ltb}
 use Rattle.std.proofs.Math.Seq.{take-length}
 use Rattle.lt_terms.specs.Bytes.{Image, same_bytes}
 use Rattle.lt_terms.specs.Items.{Item}
-use Rattle.lt_tables.specs.Group.{group_block}
+use Rattle.lt_tables.specs.Filter.{group_block}
 use Rattle.lt_tables.specs.Cut.{cut}
-use Rattle.lt_tables.specs.Merge.{newest, without_deletes}
+use Rattle.lt_tables.specs.Table.{newest, without_deletes}
 use Rattle.lt_tables.proofs.NewestLaws.{newest-newest}
 use Rattle.lt_tables.proofs.ListLaws.{all_take, all_drop, all_join}
 use Rattle.lt_format.specs.declared.geometry.Geometry.{Geometry}
 use Rattle.lt_format.specs.declared.node_id.NodeId.{NodeId}
 use Rattle.lt_format.specs.Changes.{flush, after_change}
-use Rattle.lt_format.specs.Naming.{Named}
+use Rattle.lt_format.specs.Snapshot.{Named}
 use Rattle.lt_format.specs.Trie.{Trie, root, child, node_at, named, is_last_level, same_node}
 use Rattle.lt_format.proofs.TrieLaws.{same_node-same}
 use Rattle.lt_image.specs.After.{SameExtent, SameExtents}
@@ -162,27 +162,31 @@ flush-grows levels trie tables id deep = by_root (same_node id root) refl
 
 -- ---- what is true of it on an image
 
-sources_named : (P : ℕ → Type 0) (levels : ℕ) (trie : Trie) (j : JobView) → IsShaped levels trie j → AllByRecursion P (named trie) → AllByRecursion P j.sources
+pub sources_named : (P : ℕ → Type 0) (levels : ℕ) (trie : Trie) (j : JobView) → IsShaped levels trie j → AllByRecursion P (named trie) → AllByRecursion P j.sources
 sources_named P levels trie j s all = subst (AllByRecursion P) s.oldest (all_take P (length j.sources) (node_at trie j.node).tables (named-tables P trie j.node all))
 
-behind_children : (g : Geometry) (old new : Image) (trie : Trie) (id : NodeId) (from : ℕ) (shares : List Share) → SameExtents g old new (named trie) → children_shared trie id from shares ≡ true → AllByRecursion (λ (s : Share). SameExtents g old new s.behind) shares
-behind_children g old new trie id from [] same h = tt
-behind_children g old new trie id from (s ∷ shares) same h =
+behind_children : (P : ℕ → Type 0) (trie : Trie) (id : NodeId) (from : ℕ) (shares : List Share) → AllByRecursion P (named trie) → children_shared trie id from shares ≡ true → AllByRecursion (λ (s : Share). AllByRecursion P s.behind) shares
+behind_children P trie id from [] all h = tt
+behind_children P trie id from (s ∷ shares) all h =
     let f = and_parts _ (children_shared trie id (s.node.number + 1) shares) h in
     let e = and_parts _ (same_bytes s.behind (node_at trie s.node).tables) f.0 in
-    (subst (SameExtents g old new) (sym ((bytes_decides s.behind (node_at trie s.node).tables).0 e.1)) (named-tables (SameExtent g old new) trie s.node same), behind_children g old new trie id (s.node.number + 1) shares same f.1)
+    (subst (AllByRecursion P) (sym ((bytes_decides s.behind (node_at trie s.node).tables).0 e.1)) (named-tables P trie s.node all), behind_children P trie id (s.node.number + 1) shares all f.1)
 
-behind_own : (g : Geometry) (old new : Image) (id : NodeId) (shares : List Share) → is_own id shares ≡ true → AllByRecursion (λ (s : Share). SameExtents g old new s.behind) shares
-behind_own g old new id shares own =
+behind_own : (P : ℕ → Type 0) (id : NodeId) (shares : List Share) → is_own id shares ≡ true → AllByRecursion (λ (s : Share). AllByRecursion P s.behind) shares
+behind_own P id shares own =
     let o = own-one id shares own in
-    subst (AllByRecursion (λ (s : Share). SameExtents g old new s.behind)) (sym o.one) (subst (SameExtents g old new) (sym o.behind) tt, tt)
+    subst (AllByRecursion (λ (s : Share). AllByRecursion P s.behind)) (sym o.one) (subst (AllByRecursion P) (sym o.behind) tt, tt)
+
+-- what is true of all tables that are named is true of those that shares lie behind
+pub behind_those : (P : ℕ → Type 0) (levels : ℕ) (trie : Trie) (id : NodeId) (shares : List Share) → AllByRecursion P (named trie) → are_shared levels trie id shares ≡ true → AllByRecursion (λ (s : Share). AllByRecursion P s.behind) shares
+behind_those P levels trie id shares all h = by_level (is_last_level levels id) h
+  where
+    by_level : (b : Bool) → cond b (is_own id shares) (children_shared trie id (8 * id.number) shares) ≡ true → AllByRecursion (λ (s : Share). AllByRecursion P s.behind) shares
+    by_level true h = behind_own P id shares h
+    by_level false h = behind_children P trie id (8 * id.number) shares all h
 
 pub behind_shared : (g : Geometry) (old new : Image) (levels : ℕ) (trie : Trie) (id : NodeId) (shares : List Share) → SameExtents g old new (named trie) → are_shared levels trie id shares ≡ true → AllByRecursion (λ (s : Share). SameExtents g old new s.behind) shares
-behind_shared g old new levels trie id shares same h = by_level (is_last_level levels id) h
-  where
-    by_level : (b : Bool) → cond b (is_own id shares) (children_shared trie id (8 * id.number) shares) ≡ true → AllByRecursion (λ (s : Share). SameExtents g old new s.behind) shares
-    by_level true h = behind_own g old new id shares h
-    by_level false h = behind_children g old new trie id (8 * id.number) shares same h
+behind_shared g old new levels trie id shares same h = behind_those (SameExtent g old new) levels trie id shares same h
 
 keeps_stage : (m n : Named) (old new : Image) (id : NodeId) (sources : List ℕ) (stage : Stage) → n.geometry ≡ m.geometry → SameChildren m.manifest.trie n.manifest.trie id → SameExtents m.geometry old new (named m.manifest.trie) → SameExtents m.geometry old new sources → SameExtents m.geometry old new (taken_in stage)
     → is_shaped_stage m.geometry.levels m.manifest.trie id sources stage ≡ true → KeepsStage m old id sources stage → KeepsStage n new id sources stage

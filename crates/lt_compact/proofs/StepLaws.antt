@@ -12,12 +12,12 @@ use Rattle.std.proofs.Math.Seq.{take-length}
 use Rattle.lt_terms.specs.Bytes.{Image, same_bytes}
 use Rattle.lt_terms.specs.Items.{Item}
 use Rattle.lt_tables.specs.Alike.{SameNewest}
-use Rattle.lt_tables.specs.Merge.{has_two_versions, is_put, newest, newest_of, versions_of}
+use Rattle.lt_tables.specs.Table.{has_two_versions, is_put, newest, newest_of, versions_of}
 use Rattle.lt_tables.proofs.NewestLaws.{newest-alike, newest_of-newest, SameNewest-append, SameNewest-newest, SameNewest-refl}
 use Rattle.lt_tables.proofs.PartLaws.{HasOnce-newest}
 use Rattle.lt_tables.proofs.RankedLaws.{each_newest}
 use Rattle.lt_format.specs.declared.node_id.NodeId.{NodeId}
-use Rattle.lt_format.specs.Naming.{Named}
+use Rattle.lt_format.specs.Snapshot.{Named}
 use Rattle.lt_format.specs.Trie.{Trie, is_last_level, node_at, same_node}
 use Rattle.lt_format.proofs.TrieLaws.{same_node-itself}
 use Rattle.lt_image.specs.Shares.{Share, child_share, has_tables, rewrite_share, deal_shares, shares_of}
@@ -29,11 +29,11 @@ use Rattle.lt_compact.proofs.LocalLaws.{shares_of-newest}
 -- ---- a key among the items
 
 -- some item has a key that passes the test
-abbrev any_key : (List ℕ → Bool) → List Item → Bool
+abbrev pub any_key : (List ℕ → Bool) → List Item → Bool
 any_key p items = list_any (λ (v : Item). p v.key) items
 
 -- some item has this key
-abbrev has_key : List ℕ → List Item → Bool
+abbrev pub has_key : List ℕ → List Item → Bool
 has_key key items = list_any (λ (v : Item). same_bytes v.key key) items
 
 or_true : (a : Bool) → (a || true) ≡ true
@@ -50,7 +50,7 @@ some_last key o (v ∷ items) = by_test (same_bytes v.key key) (some_last key (S
     by_test true here there = here ∙ sym (or_true (is_some o))
     by_test false here there = there
 
-has_key-newest_of : (key : List ℕ) (items : List Item) → is_some (newest_of key items) ≡ has_key key items
+pub has_key-newest_of : (key : List ℕ) (items : List Item) → is_some (newest_of key items) ≡ has_key key items
 has_key-newest_of key items = some_last key None items
 
 -- a key that passes
@@ -91,14 +91,14 @@ any_key-newest p items = both_ways (any_key p (newest items)) (any_key p items) 
 
 -- ---- loose items
 
-abbrev has_delete : List Item → Bool
+abbrev pub has_delete : List Item → Bool
 has_delete items = list_any (λ v. not (is_put v)) items
 
 -- a key stands on both sides
-abbrev meets : List Item → List Item → Bool
+abbrev pub meets : List Item → List Item → Bool
 meets xs ys = any_key (λ key. has_key key ys) xs
 
-two-append : (xs ys : List Item) → has_two_versions (xs ++ ys) ≡ (has_two_versions xs || (meets xs ys || has_two_versions ys))
+pub two-append : (xs ys : List Item) → has_two_versions (xs ++ ys) ≡ (has_two_versions xs || (meets xs ys || has_two_versions ys))
 two-append [] ys = refl
 two-append (v ∷ xs) ys =
     ap (λ b. b || has_two_versions (xs ++ ys)) (list_any-append (λ (w : Item). same_bytes w.key v.key) xs ys)

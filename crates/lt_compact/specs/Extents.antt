@@ -1,7 +1,7 @@
 -- Extents that are taken, and the filters of the tables that a job built.
 use Rattle.std.specs.Prelude.{◌≡◌, ℕ, ◌<◌, Bool, false, List, [], map, length, IsTrue, if◌then◌else◌}
 use Rattle.std.specs.List.{flat_map}
-use Rattle.lt_terms.specs.Numbers.{is_in}
+use Rattle.lt_terms.specs.Bytes.{is_in}
 use Rattle.lt_alloc.specs.Extents.{is_free}
 use Rattle.lt_tables.specs.Filter.{filter_block}
 use Rattle.lt_format.specs.Trie.{is_last_level, child}

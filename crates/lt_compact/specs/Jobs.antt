@@ -5,10 +5,10 @@ use Rattle.std.specs.Prelude.{Some, None, nat_le, nat_lt, ◌==◌, if◌then◌
 use Rattle.std.specs.List.{AllZip, list_any}
 use Rattle.lt_terms.specs.Bytes.{Image}
 use Rattle.lt_terms.specs.Items.{Item}
-use Rattle.lt_tables.specs.Merge.{has_two_versions, is_put, newest}
+use Rattle.lt_tables.specs.Table.{has_two_versions, is_put, newest}
 use Rattle.lt_format.specs.declared.node_id.NodeId.{NodeId}
 use Rattle.lt_format.specs.Changes.{Change}
-use Rattle.lt_format.specs.Naming.{Named}
+use Rattle.lt_format.specs.Snapshot.{Named}
 use Rattle.lt_format.specs.Trie.{Trie, node_at, is_last_level}
 use Rattle.lt_image.specs.Shares.{Share, needed, shares_of}
 use Rattle.lt_image.specs.Versions.{pile_items}
@@ -17,6 +17,19 @@ use Rattle.lt_compact.specs.Plans.{Holds, all_contents, are_shared, change_for, 
 -- versions that a rewriting drops some of: a delete, or two versions of one key
 abbrev pub is_loose : List Item → Bool
 is_loose items = list_any (λ v. not (is_put v)) items || has_two_versions items
+
+-- what a job found in the tables that it scanned: how many these are, the newest of each key among their
+-- items, and whether these are loose
+pub record FoundView : Type 0 where
+  pub scanned : ℕ
+  pub kept : List Item
+  pub loose : Bool
+
+-- what lists of items stand for, of which older versions and deletes may be gone where `loose` tells that
+-- there were some
+abbrev pub found_in : ℕ → List Item → Bool → FoundView
+found_in scanned items loose =
+    record { scanned = scanned; kept = newest items; loose = loose || is_loose items }
 
 -- A job scans its tables, the oldest first: it keeps how many it scanned, the newest of each key among
 -- their items, and whether these are loose. Then it plans, and then it takes its extents and fills them one

@@ -1,4 +1,10 @@
 pub mod Plans
+pub mod Sharing
+pub mod Choosing
+pub mod Filling
 pub mod Jobs
 pub mod Extents
 pub mod Inside
+pub mod Scanning
+pub mod Faults
+pub mod Steps

@@ -1,18 +1,19 @@
 -- Where the shares of a job go: its extents, in the order in which the change names them, and what each of
 -- them is to hold.
-use Rattle.std.specs.Prelude.{ℕ, ◌+◌, ◌*◌, Bool, true, false, ◌&&◌, List, [], ◌∷◌, ◌++◌, map, length, take, drop}
-use Rattle.std.specs.Prelude.{nat_le, nat_lt, ◌==◌, if◌then◌else◌, slice_range}
-use Rattle.std.specs.List.{range_with_len, sum_by}
-use Rattle.lt_terms.specs.Bytes.{Image, same_bytes}
+use Rattle.std.specs.Prelude.{◌≡◌, ℕ, ◌+◌, ◌*◌, ◌≤◌, Option, Some, None, IsTrue, Bool, true, false, ◌&&◌, List, []}
+use Rattle.std.specs.Prelude.{◌∷◌, ◌++◌, map, length, take, drop, nat_le, nat_lt, ◌==◌, if◌then◌else◌, slice_range}
+use Rattle.std.specs.List.{AllByRecursion, range_with_len, sum_by}
+use Rattle.lt_terms.specs.Bytes.{Image, is_in, same_bytes}
 use Rattle.lt_terms.specs.Items.{Item}
-use Rattle.lt_tables.specs.Group.{IsGroup}
+use Rattle.lt_tables.specs.Filter.{IsGroup, filter_block}
 use Rattle.lt_tables.specs.Table.{IsPlaced}
 use Rattle.lt_format.specs.declared.geometry.Geometry.{Geometry}
 use Rattle.lt_format.specs.declared.node_id.NodeId.{NodeId}
 use Rattle.lt_format.specs.Changes.{Change, ChildChange, deal, rewrite}
-use Rattle.lt_format.specs.Trie.{Trie, node_at, is_last_level, same_node}
+use Rattle.lt_format.specs.Layout.{extent_block}
+use Rattle.lt_format.specs.Trie.{Trie, all_distinct, node_at, is_last_level, same_node}
 use Rattle.lt_image.specs.Shares.{Share, kept_groups, new_groups, share_extents}
-use Rattle.lt_image.specs.Soundness.{filter_blocks}
+use Rattle.lt_image.specs.Standing.{filter_blocks}
 use Rattle.lt_image.specs.Versions.{extent_in}
 
 -- what an extent is to hold: the table of these items, or the transpose of these tables' filter blocks
@@ -90,3 +91,18 @@ is_own id (s ∷ t ∷ shares) = false
 abbrev pub are_shared : ℕ → Trie → NodeId → List Share → Bool
 are_shared levels trie id shares = if is_last_level levels id then is_own id shares
     else children_shared trie id (8 * id.number) shares
+
+-- the filters of a table; a group has none of its own
+abbrev pub filters_of : Content → Option (List ℕ)
+filters_of (table items) = Some (filter_block items)
+filters_of (group tables) = None
+
+-- Shares may be written to these extents: as many as they take, each once and none of a table that a share lies
+-- behind, and all of them lie on a device with so many blocks.
+pub record MayFill (g : Geometry) (blocks : ℕ) (shares : List Share) (numbers : List ℕ) : Type 0 where
+  pub count : length numbers ≡ extents_for g.levels shares
+  pub distinct : IsTrue (all_distinct numbers)
+  pub apart : AllByRecursion (λ (s : Share). (x : ℕ) → IsTrue (is_in x s.behind) → is_in x numbers ≡ false) shares
+  pub within : (x : ℕ) → IsTrue (is_in x numbers) → extent_block g x + 65 ≤ blocks
+  pub behind : AllByRecursion
+      (λ (s : Share). (x : ℕ) → IsTrue (is_in x s.behind) → extent_block g x + 65 ≤ blocks) shares

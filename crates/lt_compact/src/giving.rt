@@ -1,7 +1,7 @@
 //! Extents that are given back.
 
 ghost use Rattle.std.specs.Prelude.{◌≡◌, ℕ, ◌<◌, ◌||◌, IsTrue, length};
-ghost use Rattle.lt_terms.specs.Numbers.{is_in};
+ghost use Rattle.lt_terms.specs.Bytes.{is_in};
 ghost use Rattle.lt_alloc.specs.Extents.{is_free};
 ghost use Rattle.lt_format.specs.Trie.{all_distinct};
 ghost use Rattle.lt_compact.specs.Extents.{AllTaken};

@@ -2,7 +2,7 @@
 
 ghost use Rattle.std.specs.Prelude.{◌≡◌, ℕ, ◌≤◌, ◌||◌, true, false, IfOk, IsTrue, length};
 ghost use Rattle.std.specs.Option.{option_map};
-ghost use Rattle.lt_terms.specs.Numbers.{is_in};
+ghost use Rattle.lt_terms.specs.Bytes.{is_in};
 ghost use Rattle.lt_alloc.specs.Extents.{is_free};
 ghost use Rattle.lt_format.specs.Trie.{all_distinct, is_last_level, node_at};
 ghost use Rattle.lt_node.specs.Changing.{change_of as change_shown};
@@ -11,10 +11,10 @@ ghost use Rattle.lt_compact.specs.Extents.{AllTaken, filters_in};
 ghost use Rattle.lt_compact.specs.Inside.{stage_in};
 
 use crate::giving::give_back;
+use crate::scanning::Found;
 use crate::share::Share;
 use lt_alloc::Extents;
 use lt_bloom::FilterPage;
-use lt_bucket::Item;
 use lt_format::NodeId;
 use lt_node::{Change, Trie};
 use lt_page::NoMemory;
@@ -25,29 +25,25 @@ use std::marker::Model;
 /// step. It begins at the tables that the node has, and rests on nothing else that the trie changes.
 #[derive(Drop)]
 pub struct Job {
-    levels: u8,
-    node: NodeId,
+    pub(super) levels: u8,
+    pub(super) node: NodeId,
     /// The tables, the oldest first.
-    sources: Vec<u32>,
-    stage: Stage,
+    pub(super) sources: Vec<u32>,
+    pub(super) stage: Stage,
     /// What the commit will change, once the extents are taken.
-    change: Option<Change>,
+    pub(super) change: Option<Change>,
     /// The filters of the tables that were built for inner children, in the order of their extents.
-    filters: Vec<FilterPage>,
+    pub(super) filters: Vec<FilterPage>,
 }
 
 /// How far a job has come.
 #[derive(Drop)]
 pub(super) enum Stage {
-    /// So many tables were scanned. The lists, the oldest first, stand for the items that were found, of
-    /// which older versions and deletes may be gone where `loose` tells that there were some.
-    Scanning {
-        scanned: u32,
-        lists: Vec<Vec<Item>>,
-        loose: bool,
-    },
+    Scanning(Found),
+    /// So many extents are needed.
     Planned {
         shares: Vec<Share>,
+        needed: u32,
     },
     /// So many of these extents are filled.
     Filling {
@@ -133,7 +129,7 @@ impl Stage {
                 filled,
                 ..
             } => *filled as usize == numbers.len(),
-            Stage::Scanning { .. } | Stage::Planned { .. } => false,
+            Stage::Scanning(_) | Stage::Planned { .. } => false,
         }
     }
 }
@@ -146,11 +142,7 @@ fn begin(alloc: Global, trie: &Trie, node: NodeId) -> Result<Job, NoMemory>
         levels: trie.levels(),
         node,
         sources: Vec::from_slice(alloc, trie.pile(node))?,
-        stage: Stage::Scanning {
-            scanned: 0,
-            lists: Vec::new(alloc),
-            loose: false,
-        },
+        stage: Stage::Scanning(Found::nothing(alloc)),
         change: None,
         filters: Vec::new(alloc),
     })

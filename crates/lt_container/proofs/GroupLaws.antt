@@ -8,7 +8,7 @@ use Rattle.std.proofs.lemmas.List.Concat.{flat_map-append}
 use Rattle.lt_terms.specs.Bytes.{Image, block_at, filled, padded, zeros}
 use Rattle.lt_device.specs.State.{State, IsFit, written}
 use Rattle.lt_device.proofs.Steps.{written_is, written_shown}
-use Rattle.lt_tables.specs.Group.{filter_in, group_block}
+use Rattle.lt_tables.specs.Filter.{filter_in, group_block}
 use Rattle.lt_tables.specs.Table.{blocks_from}
 use Rattle.lt_container.specs.Columns.{HasColumns}
 

@@ -1,7 +1,7 @@
 -- The blocks that a group takes.
 use Rattle.std.specs.Prelude.{◌≡◌, ℕ, ◌+◌, ◌<◌, ◌≤◌, List, Option, Some}
 use Rattle.lt_terms.specs.Bytes.{Image}
-use Rattle.lt_tables.specs.Group.{group_block}
+use Rattle.lt_tables.specs.Filter.{group_block}
 use Rattle.lt_tables.specs.Table.{blocks_from}
 
 -- a block of the 64 columns of the extent that begins at block first

@@ -4,7 +4,7 @@ ghost use Rattle.std.specs.Prelude.{◌≡◌, ◌+◌, ◌<◌, ◌≤◌, ℕ,
 ghost use Rattle.lt_terms.specs.Bytes.{Image, IsBlock};
 ghost use Rattle.lt_terms.specs.Causes.{HasCause, Rose};
 ghost use Rattle.lt_device.specs.Moments.{ConfinedTo, ShowsSameOutside};
-ghost use Rattle.lt_tables.specs.Group.{IsGroup, filter_in, group_block};
+ghost use Rattle.lt_tables.specs.Filter.{IsGroup, filter_in, group_block};
 ghost use Rattle.lt_tables.specs.Table.{blocks_from};
 ghost use Rattle.lt_container.specs.Columns.{InColumns, HasColumns};
 

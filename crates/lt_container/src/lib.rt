@@ -8,6 +8,3 @@ mod group;
 pub use columns::read_column;
 pub use fault::GroupFault;
 pub use group::write_group;
-
-#[cfg(test)]
-mod tests;

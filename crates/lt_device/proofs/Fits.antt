@@ -3,8 +3,7 @@ use Rattle.std.proofs.Common.{◌≡◌, ⊎_elim, ℕ, Bool, true, false, List,
 use Rattle.std.specs.Option.{option_map}
 use Rattle.std.proofs.lemmas.List.{length-set, length-map}
 use Rattle.lt_terms.specs.Bytes.{Image}
-use Rattle.lt_device.specs.Image.{IsWhole}
-use Rattle.lt_device.specs.State.{State, synced, Wrote, EndedSync, IsFit}
+use Rattle.lt_device.specs.State.{IsWhole, State, synced, Wrote, EndedSync, IsFit}
 use Rattle.lt_device.specs.Moments.{MayLeave}
 use Rattle.lt_device.proofs.Images.{IsWhole-set, crash_none}
 use Rattle.lt_device.proofs.Steps.{option_map-Some, longer_past-Some, written_is}

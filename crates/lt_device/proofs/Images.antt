@@ -4,7 +4,7 @@ use Rattle.std.proofs.lemmas.List.{length-set, get_or-set_same, get_or-set_other
 use Rattle.std.proofs.lemmas.List.Elements.{All-set}
 use Rattle.std.proofs.lemmas.Bool.{cases_eq, cases_lt}
 use Rattle.lt_terms.specs.Bytes.{Image, IsBlock, AreBlocks, block_at}
-use Rattle.lt_device.specs.Image.{IsWhole, SameOutside, IsCrashOf}
+use Rattle.lt_device.specs.State.{IsWhole, SameOutside, IsCrashOf}
 
 -- ---- lists of blocks
 

@@ -3,8 +3,7 @@ use Rattle.std.proofs.Common.{◌≡◌, ⊎_elim, inl, inr, ℕ, Bool, true, fa
 use Rattle.std.proofs.lemmas.Bool.{cases_eq, cases_Bool}
 use Rattle.std.proofs.lemmas.List.{get_or-set_other}
 use Rattle.lt_terms.specs.Bytes.{Image}
-use Rattle.lt_device.specs.Image.{SameOutside}
-use Rattle.lt_device.specs.State.{State, synced, Wrote, EndedSync}
+use Rattle.lt_device.specs.State.{SameOutside, State, synced, Wrote, EndedSync}
 use Rattle.lt_device.specs.Moments.{MayLeave, UnsyncedIn}
 use Rattle.lt_device.proofs.Images.{all_sure}
 use Rattle.lt_device.proofs.Steps.{option_map-Some, same_some}

@@ -2,8 +2,7 @@
 use Rattle.std.proofs.Common.{◌≡◌, ◌⊎◌, inl, inr, ⊎_elim, ℕ, List, Some, sym, ap, ◌∙◌, set, subst, arith}
 use Rattle.std.specs.Option.{option_map}
 use Rattle.lt_terms.specs.Bytes.{Image}
-use Rattle.lt_device.specs.Image.{SameOutside}
-use Rattle.lt_device.specs.State.{Epoch, State, synced, Wrote, EndedSync, IsFit}
+use Rattle.lt_device.specs.State.{SameOutside, Epoch, State, synced, Wrote, EndedSync, IsFit}
 use Rattle.lt_device.specs.Moments.{MayLeave, ShownNow, clock, LeftSince, Leaves, IsNear, ConfinedTo}
 use Rattle.lt_device.proofs.Images.{same_outside_refl, same_outside_joins, same_outside_widens}
 use Rattle.lt_device.proofs.Steps.{write_near, write_any, sync_shown, write_clock, write_since, write_since_keeps, since_now, now_since, sync_was, sync_clock, sync_since, sync_since_keeps}

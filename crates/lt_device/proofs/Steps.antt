@@ -3,8 +3,7 @@ use Rattle.std.proofs.Common.{◌≡◌, ◌⊎◌, inl, inr, ⊎_elim, ℕ, zer
 use Rattle.std.specs.Option.{option_map}
 use Rattle.std.proofs.lemmas.List.{length-set}
 use Rattle.lt_terms.specs.Bytes.{Image, IsBlock, block_at}
-use Rattle.lt_device.specs.Image.{IsWhole, IsCrashOf, SameOutside}
-use Rattle.lt_device.specs.State.{Epoch, State, written, synced, longer_past, Wrote, EndedSync, IsFit}
+use Rattle.lt_device.specs.State.{IsWhole, IsCrashOf, SameOutside, Epoch, State, written, synced, longer_past, Wrote, EndedSync, IsFit}
 use Rattle.lt_device.specs.Moments.{MayLeave, clock, length_of_past, InOneOf, LeftSince, IsNear}
 use Rattle.lt_device.proofs.Images.{block_at-set_same, block_at-set_other, crash_before_write, crash_any_page, crash_after_write, crash_none, crash_only, all_sure}
 

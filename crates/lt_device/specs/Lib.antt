@@ -1,6 +1,5 @@
 pub mod Calls
 pub mod History
-pub mod Image
 pub mod Memory
 pub mod Moments
 pub mod Reads

@@ -2,8 +2,7 @@
 use Rattle.std.specs.Prelude.{◌≡◌, ◌⊎◌, ℕ, ◌≤◌, Bool, true, false, List, [], ◌∷◌, length, drop, slice_index_or}
 use Rattle.std.specs.Prelude.{Option, Some, None}
 use Rattle.lt_terms.specs.Bytes.{Image}
-use Rattle.lt_device.specs.Image.{IsCrashOf, SameOutside}
-use Rattle.lt_device.specs.State.{Epoch, State}
+use Rattle.lt_device.specs.State.{IsCrashOf, SameOutside, Epoch, State}
 
 -- a crash at this moment may leave this image; none is told where the device does not tell
 pub record MayLeave (s : State) (left : Image) : Type 0 where

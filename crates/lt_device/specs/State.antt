@@ -1,9 +1,24 @@
--- What a device tells of itself, and how its calls change that.
-use Rattle.std.specs.Prelude.{◌≡◌, ◌⊎◌, ℕ, Bool, true, false, List, [], ◌∷◌, ◌++◌, length, map, slice_set}
-use Rattle.std.specs.Prelude.{Option, Some, None}
+-- What a crash may make of the blocks of a device; what a device tells of itself, and how its calls change that.
+use Rattle.std.specs.Prelude.{◌≡◌, ℕ, Bool, false, List, length, slice_index_or, ◌⊎◌, true, [], ◌∷◌, ◌++◌, map}
+use Rattle.std.specs.Prelude.{slice_set, Option, Some, None}
 use Rattle.std.specs.Option.{option_map}
-use Rattle.lt_terms.specs.Bytes.{Image, IsBlock}
-use Rattle.lt_device.specs.Image.{IsWhole}
+use Rattle.lt_terms.specs.Bytes.{Image, AreBlocks, block_at, IsBlock}
+
+-- so many blocks
+pub record IsWhole (blocks : ℕ) (image : Image) : Type 0 where
+  pub size : length image ≡ blocks
+  pub pages : AreBlocks image
+
+-- all blocks but these are the same
+pub record SameOutside (inside : ℕ → Type 0) (old new : Image) : Type 0 where
+  pub size : length new ≡ length old
+  pub others : (k : ℕ) → ¬ inside k → block_at new k ≡ block_at old k
+
+-- what a crash may make of an image: a block that was not written since the last sync stays, and any other is any page
+pub record IsCrashOf (image : Image) (unsynced : List Bool) (left : Image) : Type 0 where
+  pub size : length left ≡ length image
+  pub kept : (k : ℕ) → slice_index_or unsynced k false ≡ false → block_at left k ≡ block_at image k
+  pub pages : AreBlocks left
 
 -- a device just before a sync that answered Ok: its blocks, and which of them were written since the sync before
 pub record Epoch : Type 0 where

@@ -7,8 +7,7 @@
 ghost use Rattle.std.specs.Prelude.{◌≡◌, ◌⊎◌, ℕ, ◌+◌, ◌<◌, ◌≤◌, Bool, List, Some, slice_set};
 ghost use Rattle.lt_terms.specs.Bytes.{Image, IsBlock, block_at};
 ghost use Rattle.lt_device.specs.Calls.{OnlyReads, OnlyWrites, ReadsAndWrites};
-ghost use Rattle.lt_device.specs.Image.{IsWhole, SameOutside};
-ghost use Rattle.lt_device.specs.State.{Epoch, State, synced, written, IsFit, Wrote, EndedSync};
+ghost use Rattle.lt_device.specs.State.{IsWhole, SameOutside, Epoch, State, synced, written, IsFit, Wrote, EndedSync};
 ghost use Rattle.lt_device.specs.Moments.{MayLeave, clock, LeftSince, Leaves, IsNear, ConfinedTo, UnsyncedIn};
 
 use crate::device::Device;

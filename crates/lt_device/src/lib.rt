@@ -13,6 +13,3 @@ pub use device::Device;
 pub use mem_device::MemDevice;
 pub use pick::Pick;
 pub use steady::Steady;
-
-#[cfg(test)]
-mod tests;

@@ -5,9 +5,8 @@ ghost use Rattle.std.specs.Option.{ForSome};
 ghost use Rattle.lt_terms.specs.Bytes.{AreBlocks, block_at, zero_block};
 ghost use Rattle.lt_terms.specs.Causes.{CountsOne, HasCause};
 ghost use Rattle.lt_device.specs.State.{EndedSync, IsFit, Wrote, synced, written};
-ghost use Rattle.lt_device.specs.Memory.{IsSynced, IsPicked, after_read, after_sync, after_write};
-ghost use Rattle.lt_device.specs.Memory.{all_synced, called, fresh, is_failing, is_full, left_unsynced, memory_state};
-ghost use Rattle.lt_device.specs.Memory.{patched, recorded};
+ghost use Rattle.lt_device.specs.Memory.{IsSynced, IsPicked, after_read, after_sync, after_write, all_synced, called};
+ghost use Rattle.lt_device.specs.Memory.{fresh, is_failing, is_full, left_unsynced, memory_state, patched, recorded};
 ghost use Rattle.lt_device.specs.Moments.{MayLeave};
 
 use super::device::Device;

@@ -2,7 +2,7 @@
 use Rattle.std.proofs.Common.{◌≡◌, ℕ, List, [], Option, Some, None}
 use Rattle.std.proofs.lemmas.List.{append-nil}
 use Rattle.std.specs.Io.KnownBytes.{Appends, Keeps}
-use Rattle.lt_io.specs.Sink.{Gains}
+use Rattle.lt_io.specs.Streams.{Gains}
 
 pub gains_appended : (old new : Option (List ℕ)) (bytes : List ℕ) → Appends old new bytes → Gains (λ taken. old ≡ Some taken) (λ taken. new ≡ Some taken) bytes
 gains_appended None new bytes appends = record { each = λ taken is. absurd (cc) }

@@ -1,7 +1,7 @@
 //! A writer as a sink.
 
 ghost use Rattle.std.specs.Prelude.{◌≡◌, ◌<◌, ◌≤◌, [], Some, length, take, IfOk, OnOk, OnErr};
-ghost use Rattle.lt_io.specs.Sink.{Gains};
+ghost use Rattle.lt_io.specs.Streams.{Gains};
 ghost use Rattle.lt_terms.specs.Causes.{next_count};
 
 use super::counts::risen;
@@ -44,10 +44,12 @@ impl<W: Write + Drop> Sink for StdSink<W> {
     fn write(&mut self, bytes: &[u8]) -> Result<usize, Failed>
         ensures fits { IfOk result (λ count. count ≤ length bytes.now) }
         ensures progress { IfOk result (λ count. 0 < length bytes.now → 0 < count) }
-        ensures taken { IfOk result (λ count. Gains (λ taken. self.old.held ≡ Some taken) (λ taken. self.new.held ≡ Some taken) (take count bytes.now)) }
+        ensures taken { IfOk result (λ count. Gains (λ taken. self.old.held ≡ Some taken)
+            (λ taken. self.new.held ≡ Some taken) (take count bytes.now)) }
         ensures ok { OnOk result (self.new.faults ≡ self.old.faults) }
         ensures err { OnErr result (self.new.faults ≡ next_count self.old.faults) }
-        ensures err_taken { OnErr result (Gains (λ taken. self.old.held ≡ Some taken) (λ taken. self.new.held ≡ Some taken) []) }
+        ensures err_taken { OnErr result (Gains (λ taken. self.old.held ≡ Some taken)
+            (λ taken. self.new.held ≡ Some taken) []) }
     {
         match self.output.write(bytes) {
             Ok(count) if count > 0 || bytes.is_empty() => Ok(count),

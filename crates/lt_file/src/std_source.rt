@@ -2,7 +2,7 @@
 
 ghost use Rattle.std.specs.Prelude.{◌≡◌, ◌≤◌, None, IfOk, OnOk, OnErr, take};
 ghost use Rattle.std.specs.Io.KnownBytes.{Consumes, IsAtEnd, Keeps};
-ghost use Rattle.lt_io.specs.Source.{pieces_after};
+ghost use Rattle.lt_io.specs.Streams.{pieces_after};
 ghost use Rattle.lt_terms.specs.Causes.{next_count};
 
 use super::counts::risen;

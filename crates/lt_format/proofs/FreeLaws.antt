@@ -6,7 +6,7 @@ use Rattle.std.specs.FinMap.{find, put, is_sorted}
 use Rattle.std.specs.FinMap.Entries.{where_key}
 use Rattle.std.specs.List.{flat_map, fold, list_all, AllByRecursion}
 use Rattle.std.proofs.lemmas.Bool.{and_parts, eqb-true, eq-eqb, ne_eqb, not-true}
-use Rattle.lt_terms.specs.Numbers.{is_in}
+use Rattle.lt_terms.specs.Bytes.{is_in}
 use Rattle.lt_format.specs.declared.node_id.NodeId.{NodeId}
 use Rattle.lt_format.proofs.ShapeLaws.{node_at-shaped, shaped-inner}
 use Rattle.lt_format.specs.Trie.{IsTrie, all_below, all_distinct, is_last_level, is_node, Node, Trie, root, node_cmp, same_node, node_at, with_node, node_extents, named, empty_node, groups_for}

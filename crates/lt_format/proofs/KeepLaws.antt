@@ -5,7 +5,7 @@ use Rattle.std.specs.List.{fold, list_all}
 use Rattle.std.proofs.Math.Nat.{pow-suc}
 use Rattle.std.proofs.lemmas.List.{length-take-le}
 use Rattle.std.proofs.lemmas.Bool.{and_parts, and_from, eqb-true, leb-true, ltb-true, lt-ltb, ne_eqb, eqb-false, not-true}
-use Rattle.lt_terms.specs.Numbers.{is_in}
+use Rattle.lt_terms.specs.Bytes.{is_in}
 use Rattle.lt_format.specs.declared.node_id.NodeId.{NodeId}
 use Rattle.lt_format.specs.Trie.{Node, Trie, root, node_at, with_node, node_extents, named, is_node, is_last_level, is_shaped, groups_for, all_distinct, all_below, IsTrie}
 use Rattle.lt_format.specs.Changes.{Change, flush, deal, rewrite, ChildChange, new_extents, are_new, fits, shape_fits, groups_fit, children_fit, appended, child_after, after_child, without_oldest, after_change}

@@ -7,8 +7,7 @@ use Rattle.lt_format.specs.declared.geometry.Geometry.{Geometry}
 use Rattle.lt_format.specs.Layout.{area_block, snapshot_blocks, selected, selector_block, geometry_of, is_open, log_gate, log_content, first_open, closed_from}
 use Rattle.lt_format.specs.Log.{group_on, with_group, read_with, log_from}
 use Rattle.lt_format.specs.Trie.{Trie}
-use Rattle.lt_format.specs.Snapshot.{Manifest, Front, ◌>>=◌, nodes_read, front_read, snapshot_read, snapshot_in, area_byte, as_block, total_offset}
-use Rattle.lt_format.specs.Naming.{geometry_in, manifest_in, manifest_of, roomy}
+use Rattle.lt_format.specs.Snapshot.{Manifest, Front, ◌>>=◌, nodes_read, front_read, snapshot_read, snapshot_in, area_byte, as_block, total_offset, geometry_in, manifest_in, manifest_of, roomy}
 use Rattle.lt_format.proofs.AlikeLaws.{front_read-same, nodes_read-same}
 use Rattle.lt_format.proofs.ReadLaws.{front_ok}
 

@@ -7,14 +7,12 @@ use Rattle.std.specs.FinMap.{is_sorted}
 use Rattle.std.specs.FinMap.Entries.{below_all}
 use Rattle.std.specs.List.{list_all}
 use Rattle.std.proofs.lemmas.Bool.{and_parts, and_from, not-true, leb-true, eqb-true, eq-eqb}
-use Rattle.lt_terms.specs.Bytes.{Image, block_at, u16_at, all_zero, same_bytes}
-use Rattle.lt_terms.specs.Numbers.{is_in}
+use Rattle.lt_terms.specs.Bytes.{Image, block_at, u16_at, all_zero, same_bytes, is_in}
 use Rattle.lt_format.specs.declared.node_id.NodeId.{NodeId}
 use Rattle.lt_format.specs.declared.geometry.Geometry.{Geometry}
 use Rattle.lt_format.specs.Layout.{is_geometry, geometry_of, blocks_needed, selected, selector_block}
 use Rattle.lt_format.specs.Trie.{Node, Trie, node_cmp, node_extents, named, is_node, is_shaped, groups_for, all_below, IsTrie}
-use Rattle.lt_format.specs.Snapshot.{Manifest, Front, ◌>>=◌, field, number_in, extents_at, follows, node_read, nodes_read, id_of, extents_of, is_zero, extents_stand, front_read, snapshot_read, snapshot_in, area_byte, as_block, total_offset}
-use Rattle.lt_format.specs.Naming.{Named, roomy, geometry_in, manifest_in, manifest_of}
+use Rattle.lt_format.specs.Snapshot.{Manifest, Front, ◌>>=◌, field, number_in, extents_at, follows, node_read, nodes_read, id_of, extents_of, is_zero, extents_stand, front_read, snapshot_read, snapshot_in, area_byte, as_block, total_offset, Named, roomy, geometry_in, manifest_in, manifest_of}
 use Rattle.lt_format.proofs.Numbers.{times, times-append, times-absent, distinct-times}
 use Rattle.lt_format.proofs.ShapeLaws.{is_fine}
 use Rattle.lt_format.proofs.SpellLaws.{AreFresh}

@@ -6,8 +6,7 @@ use Rattle.std.proofs.lemmas.List.{get_or_append_left, get_or-append-add}
 use Rattle.std.proofs.lemmas.List.FromFn.{fill_by_all}
 use Rattle.std.proofs.lemmas.Nat.{from_be_bytes-to_be_bytes_2, from_be_bytes-to_be_bytes_4, from_be_bytes-to_be_bytes_8}
 use Rattle.std.proofs.lemmas.Bool.{and_parts, and_from, ltb-true, le-leb, eq-eqb, not_from_false}
-use Rattle.lt_terms.specs.Bytes.{u16, u32, u64}
-use Rattle.lt_terms.specs.Numbers.{is_in}
+use Rattle.lt_terms.specs.Bytes.{u16, u32, u64, is_in}
 use Rattle.lt_format.specs.Trie.{all_below}
 use Rattle.lt_format.specs.Snapshot.{numbers, number_in, field, extents_at}
 use Rattle.lt_format.proofs.Numbers.{times, absent-times}

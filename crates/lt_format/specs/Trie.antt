@@ -8,7 +8,7 @@ use Rattle.std.specs.FinMap.Entries.{where_key}
 use Rattle.std.specs.List.{flat_map, list_all, sum_by}
 use Rattle.std.specs.Option.{unwrap_or}
 use Rattle.lt_terms.specs.Hashes.{key_digit}
-use Rattle.lt_terms.specs.Numbers.{is_in}
+use Rattle.lt_terms.specs.Bytes.{is_in}
 use Rattle.lt_format.specs.declared.node_id.NodeId.{NodeId}
 
 -- a node's pile, the oldest table first, its groups in order, and how many tables its last rewriting gave

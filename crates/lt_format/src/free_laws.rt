@@ -1,7 +1,7 @@
 //! What a change frees.
 
 ghost use Rattle.std.specs.Prelude.{◌≡◌, ◌≤◌, ◌&&◌, ◌||◌, ℕ, not, IsTrue};
-ghost use Rattle.lt_terms.specs.Numbers.{is_in};
+ghost use Rattle.lt_terms.specs.Bytes.{is_in};
 ghost use Rattle.lt_format.specs.Changes.{Change, after_change, fits, freed, new_extents};
 ghost use Rattle.lt_format.specs.Trie.{IsTrie, Trie, all_distinct, named};
 

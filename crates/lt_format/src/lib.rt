@@ -8,8 +8,6 @@ mod laws;
 mod node_id;
 mod read_laws;
 mod snapshot_laws;
-#[cfg(test)]
-mod tests;
 mod trie_laws;
 
 pub use free_laws::changes_free;

@@ -3,8 +3,7 @@
 ghost use Rattle.std.specs.Prelude.{◌≡◌, ◌<◌, Ok, IsTrue, length};
 ghost use Rattle.lt_terms.specs.Bytes.{Image};
 ghost use Rattle.lt_format.specs.Layout.{is_geometry};
-ghost use Rattle.lt_format.specs.Naming.{Named, manifest_of};
-ghost use Rattle.lt_format.specs.Snapshot.{extents_stand};
+ghost use Rattle.lt_format.specs.Snapshot.{Named, manifest_of, extents_stand};
 ghost use Rattle.lt_format.specs.Trie.{IsTrie};
 
 /// The geometry that an image names is one, and its manifest has a log area, as many extents as the

@@ -4,9 +4,8 @@ ghost use Rattle.std.specs.Prelude.{◌≡◌, ℕ, ◌+◌, ◌<◌, ◌≤◌,
 ghost use Rattle.lt_terms.specs.Bytes.{Image, block_at};
 ghost use Rattle.lt_format.specs.declared.geometry.Geometry.{Geometry};
 ghost use Rattle.lt_format.specs.Layout.{is_geometry, area_block, snapshot_blocks};
-ghost use Rattle.lt_format.specs.Naming.{manifest_of};
-ghost use Rattle.lt_format.specs.Snapshot.{Manifest, IsManifest, snapshot_bytes, snapshot_page, pages_of};
-ghost use Rattle.lt_format.specs.Snapshot.{snapshot_read, snapshot_in};
+ghost use Rattle.lt_format.specs.Snapshot.{manifest_of, Manifest, IsManifest, snapshot_bytes, snapshot_page};
+ghost use Rattle.lt_format.specs.Snapshot.{pages_of, snapshot_read, snapshot_in};
 
 /// A manifest is read again from the bytes of its snapshot, whatever follows them, and from their
 /// pages in an area. The pages fit in the area.

@@ -17,9 +17,8 @@ use Rattle.lt_terms.specs.Hashes.{key_suffix, rank_cmp}
 use Rattle.lt_tables.specs.declared.Entry.{Entry}
 use Rattle.lt_tables.specs.declared.ColumnPlan.{ColumnPlan}
 use Rattle.lt_tables.specs.Bucket.{Bucket, capacity, fits_bucket}
-use Rattle.lt_tables.specs.Merge.{newest}
+use Rattle.lt_tables.specs.Table.{newest, place_of, bucket_in}
 use Rattle.lt_tables.specs.Placement.{entry_of, placement_of, has_placement}
-use Rattle.lt_tables.specs.Table.{place_of, bucket_in}
 use Rattle.lt_tables.proofs.HashLaws.{home_column-small}
 use Rattle.lt_tables.proofs.FitLaws.{total, total-add}
 use Rattle.lt_tables.proofs.NewestLaws.{first, second}

@@ -14,8 +14,7 @@ use Rattle.lt_tables.specs.declared.ColumnPlan.{ColumnPlan}
 use Rattle.lt_tables.specs.declared.Sends.{Sends}
 use Rattle.lt_tables.specs.Bucket.{capacity, fits_bucket}
 use Rattle.lt_tables.specs.Filter.{AddsPositions, HasFilters}
-use Rattle.lt_tables.specs.Merge.{newest}
-use Rattle.lt_tables.specs.Table.{bucket_in, place_of}
+use Rattle.lt_tables.specs.Table.{newest, bucket_in, place_of}
 use Rattle.lt_tables.proofs.FilterLaws.{HasFilters-more}
 use Rattle.lt_tables.proofs.HashLaws.{home_column-small, digits-small, positions-small}
 

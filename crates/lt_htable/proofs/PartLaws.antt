@@ -7,7 +7,7 @@ use Rattle.std.proofs.lemmas.List.Elements.{All-from_recursion, recursion_from_A
 use Rattle.std.proofs.lemmas.Bool.{and_parts}
 use Rattle.lt_terms.specs.Items.{Item, is_valid}
 use Rattle.lt_tables.specs.Cut.{IsTable, cut, cut_counts, pieces, table_total}
-use Rattle.lt_tables.specs.Merge.{newest}
+use Rattle.lt_tables.specs.Table.{newest}
 use Rattle.lt_tables.specs.Placement.{entry_of}
 use Rattle.lt_tables.proofs.CutLaws.{cut-joined, cut-tables}
 use Rattle.lt_tables.proofs.RankedCutLaws.{cut-ranked}

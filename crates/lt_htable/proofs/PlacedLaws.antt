@@ -8,9 +8,8 @@ use Rattle.lt_terms.specs.Items.{Item}
 use Rattle.lt_tables.specs.declared.ColumnPlan.{ColumnPlan}
 use Rattle.lt_tables.specs.Alike.{SameNewest, HasOnce}
 use Rattle.lt_tables.specs.Bucket.{Look, moved, absent, look_of, look_on, items_on}
-use Rattle.lt_tables.specs.Merge.{newest_of}
+use Rattle.lt_tables.specs.Table.{newest_of, blocks_from, IsPlaced, table_items}
 use Rattle.lt_tables.specs.Placement.{plan_at, columns}
-use Rattle.lt_tables.specs.Table.{blocks_from, IsPlaced, table_items}
 use Rattle.lt_tables.proofs.HashLaws.{home_column-small}
 use Rattle.lt_tables.proofs.LookLaws.{place_key, look_on-placed, sent_where}
 use Rattle.lt_tables.proofs.PlanLaws.{placement-within}

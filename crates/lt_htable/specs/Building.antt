@@ -12,4 +12,5 @@ InExtent first k = (first ≤ k) × (k < first + 65)
 
 -- where a device tells what it reads as, the first n blocks spell these buckets
 pub record HasBuckets (plans : List ColumnPlan) (items : List Item) (first n : ℕ) (shown : Option Image) : Type 0 where
-  pub each : (image : Image) → shown ≡ Some image → (c : ℕ) → c < n → bucket_of (blocks_from image first c) ≡ Some (bucket_in plans items c)
+  pub each : (image : Image) → shown ≡ Some image → (c : ℕ) → c < n
+      → bucket_of (blocks_from image first c) ≡ Some (bucket_in plans items c)

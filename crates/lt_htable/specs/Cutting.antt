@@ -2,7 +2,7 @@
 use Rattle.std.specs.Prelude.{◌≡◌, List}
 use Rattle.lt_terms.specs.Items.{Item}
 use Rattle.lt_tables.specs.Cut.{IsTable}
-use Rattle.lt_tables.specs.Merge.{newest}
+use Rattle.lt_tables.specs.Table.{newest}
 
 -- items of one table, in rank order, each key once
 pub record IsPart (items : List Item) : Type 0 where

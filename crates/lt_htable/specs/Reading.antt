@@ -36,7 +36,8 @@ at_home first home (Some (moved column)) second = at_last (first + column) secon
 at_home first home (Some absent) second = Ok None
 
 -- this is what the pages of the home bucket and, where that sends the key, of the target answer on it
-pub record IsLookedUp (shown : Option Image) (first : ℕ) (key : List ℕ) (answer : Result (Option Item) LookFault) : Type 0 where
+pub record IsLookedUp (shown : Option Image) (first : ℕ) (key : List ℕ) (answer : Result (Option Item) LookFault)
+    : Type 0 where
   pub home : List ℕ
   pub target : List ℕ
   pub home_read : IsRead shown (first + home_column key) home
@@ -59,7 +60,8 @@ target_of (Some absent) = None
 -- the block and the page of the home bucket, or of the target
 abbrev pub IsBlockOf : Option Image → ℕ → ℕ → List ℕ → Option ℕ → ℕ → List ℕ → Type 0
 IsBlockOf shown first column home None block page = (block ≡ first + column) × (page ≡ home)
-IsBlockOf shown first column home (Some target) block page = (block ≡ first + target) × IsRead shown (first + target) page
+IsBlockOf shown first column home (Some target) block page =
+    (block ≡ first + target) × IsRead shown (first + target) page
 
 -- the bucket that answers on a key was read from this block: the home's, or the target's
 pub record IsSought (shown : Option Image) (first : ℕ) (key : List ℕ) (block : ℕ) (page : List ℕ) : Type 0 where

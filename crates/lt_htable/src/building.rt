@@ -1,14 +1,14 @@
 //! Writing a table.
 
-ghost use Rattle.std.specs.Prelude.{◌≡◌, ℕ, ◌+◌, ◌<◌, ◌≤◌, Some, IfOk, OnOk, IsErrOf, IsTrue, length, map};
+ghost use Rattle.std.specs.Prelude.{◌≡◌, ℕ, ◌+◌, ◌<◌, ◌≤◌, Some, IfOk, OnOk, IsErr, IsErrOf, IsTrue, length, map};
 ghost use Rattle.lt_terms.specs.Bytes.{Image};
-ghost use Rattle.lt_terms.specs.Causes.{HasCause, Rose};
+ghost use Rattle.lt_terms.specs.Causes.{Rose};
+ghost use Rattle.lt_device.specs.Calls.{OnlyWrites};
 ghost use Rattle.lt_device.specs.Moments.{ConfinedTo, ShowsSameOutside};
 ghost use Rattle.lt_tables.specs.Bucket.{fits_bucket};
 ghost use Rattle.lt_tables.specs.Filter.{filter_block};
-ghost use Rattle.lt_tables.specs.Merge.{newest};
+ghost use Rattle.lt_tables.specs.Table.{newest, bucket_in, blocks_from, IsPlaced};
 ghost use Rattle.lt_tables.specs.Placement.{entry_of, has_placement};
-ghost use Rattle.lt_tables.specs.Table.{bucket_in, blocks_from, IsPlaced};
 ghost use Rattle.lt_htable.specs.Building.{HasBuckets, InExtent};
 
 use super::extent::block_in;
@@ -74,9 +74,7 @@ fn write_buckets<D: Device>(
     ensures confined { ConfinedTo (InExtent first) (D.state device.old) (D.state device.new) }
     ensures others { ShowsSameOutside (InExtent first) (D.state device.old).shown (D.state device.new).shown }
     ensures no_sync { (D.state device.new).past ≡ (D.state device.old).past }
-    ensures size { D.blocks device.new ≡ D.blocks device.old }
-    ensures count { D.reads device.new ≡ D.reads device.old }
-    ensures cause { HasCause (D.faults device.old) (D.faults device.new) result }
+    ensures calls { OnlyWrites D.Device (IsErr result) device.old device.new }
 {
     for column in 0..64u8 {
         fill_bucket(page, items, placement, column);

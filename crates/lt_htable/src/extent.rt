@@ -1,7 +1,7 @@
 //! The blocks of an extent.
 
 ghost use Rattle.std.specs.Prelude.{◌≡◌, ℕ, ◌+◌, ◌<◌, ◌≤◌, IfOk, IsErrOf, IsTrue, is_some};
-ghost use Rattle.lt_terms.specs.Causes.{CountsOne, Rose};
+ghost use Rattle.lt_device.specs.Calls.{OnlyReads};
 ghost use Rattle.lt_tables.specs.Bucket.{bucket_of};
 ghost use Rattle.lt_htable.specs.Reading.{IsRead, IsNoBucket};
 
@@ -34,11 +34,7 @@ pub(super) fn read_bucket<'p, D: Device>(
     ensures damaged_block { (b : ℕ) → IsErrOf result (LookFault.Damaged b) → b ≡ first + column }
     ensures damaged { (b : ℕ) → IsErrOf result (LookFault.Damaged b)
         → IsNoBucket (D.state device.old).shown (first + column) }
-    ensures state { D.state device.new ≡ D.state device.old }
-    ensures size { D.blocks device.new ≡ D.blocks device.old }
-    ensures count { CountsOne (D.reads device.old) (D.reads device.new) }
-    ensures later { D.faults device.old ≤ D.faults device.new }
-    ensures cause { IsErrOf result LookFault.Device → Rose (D.faults device.old) (D.faults device.new) }
+    ensures calls { OnlyReads D.Device 1 (IsErrOf result LookFault.Device) device.old device.new }
 {
     let block = block_in(device, first, column);
     device.read(block, page)?;

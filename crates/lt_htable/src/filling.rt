@@ -3,9 +3,8 @@
 ghost use Rattle.std.specs.Prelude.{◌≡◌, ◌<◌, Some, IsTrue};
 ghost use Rattle.lt_terms.specs.Bytes.{IsBlock};
 ghost use Rattle.lt_tables.specs.Bucket.{bucket_of, fits_bucket};
-ghost use Rattle.lt_tables.specs.Merge.{newest};
+ghost use Rattle.lt_tables.specs.Table.{newest, bucket_in, place_of, sends_in};
 ghost use Rattle.lt_tables.specs.Placement.{plan_at};
-ghost use Rattle.lt_tables.specs.Table.{bucket_in, place_of, sends_in};
 
 use lt_balance::{ColumnPlan, Placement};
 use lt_bucket::{BucketBuilder, Item, Sends};

@@ -1,7 +1,7 @@
 //! The filters of a table, made of its items or read.
 
 ghost use Rattle.std.specs.Prelude.{◌≡◌, ◌+◌, ◌≤◌, IfOk, IsErrOf};
-ghost use Rattle.lt_terms.specs.Causes.{CountsOne, Rose};
+ghost use Rattle.lt_device.specs.Calls.{OnlyReads};
 ghost use Rattle.lt_tables.specs.Filter.{filter_block};
 ghost use Rattle.lt_htable.specs.Reading.{IsRead};
 
@@ -36,11 +36,7 @@ pub fn read_filters<D: Device>(
     ensures filters { IfOk result (IsRead (D.state device.old).shown (first + 64)) }
 
     // A device that fails is its only fault beside memory.
-    ensures cause { IsErrOf result BuildFault.Device → Rose (D.faults device.old) (D.faults device.new) }
-    ensures later { D.faults device.old ≤ D.faults device.new }
-    ensures state { D.state device.new ≡ D.state device.old }
-    ensures size { D.blocks device.new ≡ D.blocks device.old }
-    ensures count { CountsOne (D.reads device.old) (D.reads device.new) }
+    ensures calls { OnlyReads D.Device 1 (IsErrOf result BuildFault.Device) device.old device.new }
 {
     let mut page = Page::new(alloc)?;
     device.read(block_in(device, first, 64), &mut page)?;

@@ -5,13 +5,12 @@ ghost use Rattle.std.specs.Prelude.{IsErr, IsErrOf, IfSome, is_some};
 ghost use Rattle.std.specs.Option.{ForSome, option_map};
 ghost use Rattle.lt_terms.specs.Bytes.{Image, block_at};
 ghost use Rattle.lt_terms.specs.Hashes.{home_column};
-ghost use Rattle.lt_terms.specs.Causes.{Rose};
+ghost use Rattle.lt_device.specs.Calls.{OnlyReads};
 ghost use Rattle.lt_device.specs.Reads.{CountsAtMost};
 ghost use Rattle.lt_terms.specs.Items as terms;
 ghost use Rattle.lt_item.specs.Views.{item_of};
 ghost use Rattle.lt_tables.specs.Bucket.{bucket_of, look_on, sent_to};
-ghost use Rattle.lt_tables.specs.Merge.{newest_of};
-ghost use Rattle.lt_tables.specs.Table.{blocks_from, IsPlaced};
+ghost use Rattle.lt_tables.specs.Table.{newest_of, blocks_from, IsPlaced};
 ghost use Rattle.lt_bucket.specs.Looks.{look_of};
 ghost use Rattle.lt_item.specs.Parts.{parts_of};
 ghost use Rattle.lt_htable.specs.Reading.{AnswersLook, IsSought, at_last, target_of};
@@ -43,11 +42,7 @@ pub fn look<'p, D: Device>(
         → MatchResult result (λ found. option_map item_of found ≡ newest_of key.now items)
         (λ fault. fault ≡ LookFault.Device) }
 
-    ensures cause { IsErrOf result LookFault.Device → Rose (D.faults device.old) (D.faults device.new) }
-    ensures later { D.faults device.old ≤ D.faults device.new }
-    ensures state { D.state device.new ≡ D.state device.old }
-    ensures size { D.blocks device.new ≡ D.blocks device.old }
-    ensures count { CountsAtMost 2 (D.reads device.old) (D.reads device.new) }
+    ensures calls { OnlyReads D.Device 2 (IsErrOf result LookFault.Device) device.old device.new }
     // One read where the home bucket does not send the key.
     ensures once { (image : Image) → (D.state device.old).shown ≡ Some image
         → target_of (look_on (block_at image (first + home_column key.now)) key.now) ≡ None
@@ -91,11 +86,7 @@ fn seek<D: Device>(
         IsSought (D.state device.old).shown first key.now sought.block page.new) }
     ensures spells { IfOk result (λ sought. sought.spells ≡ is_some (bucket_of page.new)) }
     ensures only_device { IfErr result (λ fault. fault ≡ LookFault.Device) }
-    ensures cause { IsErr result → Rose (D.faults device.old) (D.faults device.new) }
-    ensures later { D.faults device.old ≤ D.faults device.new }
-    ensures state { D.state device.new ≡ D.state device.old }
-    ensures size { D.blocks device.new ≡ D.blocks device.old }
-    ensures count { CountsAtMost 2 (D.reads device.old) (D.reads device.new) }
+    ensures calls { OnlyReads D.Device 2 (IsErr result) device.old device.new }
     ensures once { (image : Image) → (D.state device.old).shown ≡ Some image
         → target_of (look_on (block_at image (first + home_column key.now)) key.now) ≡ None
         → CountsAtMost 1 (D.reads device.old) (D.reads device.new) }

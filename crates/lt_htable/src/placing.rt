@@ -2,9 +2,8 @@
 
 ghost use Rattle.std.specs.Prelude.{◌≡◌, ℕ, ◌<◌, Some, IfOk, IsTrue, map};
 ghost use Rattle.lt_tables.specs.Bucket.{fits_bucket};
-ghost use Rattle.lt_tables.specs.Merge.{newest};
+ghost use Rattle.lt_tables.specs.Table.{newest, bucket_in};
 ghost use Rattle.lt_tables.specs.Placement.{entry_of, has_placement, placement_of};
-ghost use Rattle.lt_tables.specs.Table.{bucket_in};
 
 use super::summary::entries_of;
 use lt_balance::{Placement, place};

@@ -1,8 +1,7 @@
 //! All items of a table.
 
 ghost use Rattle.std.specs.Prelude.{◌≡◌, ℕ, ◌+◌, ◌<◌, ◌≤◌, List, Some, IfOk, IsErrOf, length};
-ghost use Rattle.lt_terms.specs.Causes.{Rose};
-ghost use Rattle.lt_device.specs.Reads.{CountsAtMost};
+ghost use Rattle.lt_device.specs.Calls.{OnlyReads};
 ghost use Rattle.lt_terms.specs.Bytes.{Image};
 ghost use Rattle.lt_terms.specs.Items as terms;
 ghost use Rattle.lt_tables.specs.Alike.{HasOnce, SameNewest};
@@ -33,11 +32,7 @@ pub fn scan<D: Device>(alloc: Global, device: &mut D, first: u64) -> Result<Vec<
 
     ensures damaged { (b : ℕ) → IsErrOf result (ScanFault.Damaged b)
         → (c : ℕ) × (c < 64) × (b ≡ first + c) × IsNoBucket (D.state device.old).shown b }
-    ensures cause { IsErrOf result ScanFault.Device → Rose (D.faults device.old) (D.faults device.new) }
-    ensures later { D.faults device.old ≤ D.faults device.new }
-    ensures state { D.state device.new ≡ D.state device.old }
-    ensures size { D.blocks device.new ≡ D.blocks device.old }
-    ensures count { CountsAtMost 64 (D.reads device.old) (D.reads device.new) }
+    ensures calls { OnlyReads D.Device 64 (IsErrOf result ScanFault.Device) device.old device.new }
 {
     let mut items = Vec::new(alloc);
     let mut page = Page::new(alloc)?;

@@ -3,7 +3,7 @@
 ghost use Rattle.std.specs.Prelude.{◌≡◌, ◌<◌, ◌^◌, IfOk, IsTrue, length, map};
 ghost use Rattle.std.specs.List.{list_all};
 ghost use Rattle.lt_terms.specs.Items.{is_valid};
-ghost use Rattle.lt_tables.specs.Merge.{newest};
+ghost use Rattle.lt_tables.specs.Table.{newest};
 ghost use Rattle.lt_tables.specs.Placement.{entry_of};
 ghost use Rattle.lt_balance.specs.Entries.{AreEntries};
 

@@ -8,9 +8,8 @@ use Rattle.std.proofs.lemmas.List.Concat.{flat_map-append}
 use Rattle.lt_terms.specs.Bytes.{Image, same_bytes}
 use Rattle.lt_terms.specs.Items.{Item}
 use Rattle.lt_tables.specs.Placement.{columns}
-use Rattle.lt_tables.specs.Table.{IsPlaced}
-use Rattle.lt_tables.specs.Merge.{newest}
-use Rattle.lt_tables.specs.Group.{group_block}
+use Rattle.lt_tables.specs.Table.{IsPlaced, newest}
+use Rattle.lt_tables.specs.Filter.{group_block}
 use Rattle.lt_tables.proofs.FitLaws.{all_weaker}
 use Rattle.lt_format.specs.declared.node_id.NodeId.{NodeId}
 use Rattle.lt_format.specs.declared.geometry.Geometry.{Geometry}
@@ -19,9 +18,8 @@ use Rattle.lt_format.specs.Trie.{Node, Trie, root, node_cmp, same_node, node_at,
 use Rattle.lt_format.specs.Changes.{flush, appended, after_change}
 use Rattle.lt_format.proofs.TrieLaws.{same_node-same}
 use Rattle.lt_image.proofs.ChangeLaws.{with_node-all}
-use Rattle.lt_image.specs.Opening.{Opened}
-use Rattle.lt_image.specs.Versions.{extent_in, items_at, stored_items}
-use Rattle.lt_image.specs.Soundness.{block_if, bad_in_table, bad_table_blocks, bad_group_blocks, bad_node_blocks, bad_blocks, filter_blocks}
+use Rattle.lt_image.specs.Versions.{Opened, extent_in, items_at, stored_items}
+use Rattle.lt_image.specs.Standing.{block_if, bad_in_table, bad_table_blocks, bad_group_blocks, bad_node_blocks, bad_blocks, filter_blocks}
 use Rattle.lt_image.specs.After.{SameExtent, SameExtents}
 use Rattle.lt_image.proofs.SoundLaws.{flat_map_nil, nil_flat_map, nil_append}
 use Rattle.lt_image.proofs.MapLaws.{same_items}

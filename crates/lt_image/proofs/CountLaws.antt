@@ -15,9 +15,8 @@ use Rattle.lt_terms.specs.Bytes.{Image}
 use Rattle.lt_terms.specs.Hashes.{rank_cmp}
 use Rattle.lt_terms.specs.Items.{Item}
 use Rattle.lt_tables.specs.Cut.{cut}
-use Rattle.lt_tables.specs.Merge.{newest, ranked}
+use Rattle.lt_tables.specs.Table.{newest, ranked, place_of, IsPlaced, table_items}
 use Rattle.lt_tables.specs.Placement.{columns}
-use Rattle.lt_tables.specs.Table.{place_of, IsPlaced, table_items}
 use Rattle.lt_tables.proofs.FitLaws.{total}
 use Rattle.lt_tables.proofs.CutLaws.{cut-joined}
 use Rattle.lt_tables.proofs.TableLaws.{table_items-placed}
@@ -27,19 +26,16 @@ use Rattle.lt_format.specs.Trie.{Node, Trie, root, node_cmp, same_node, node_at,
 use Rattle.lt_format.specs.Changes.{flush, appended, after_change}
 use Rattle.lt_format.proofs.FreeLaws.{no_list}
 use Rattle.lt_format.proofs.TrieLaws.{same_node-same, node_exact, find-below, below-less, where_key-below}
-use Rattle.lt_image.specs.Opening.{Opened, open_image, log_items, number_of}
-use Rattle.lt_image.specs.Versions.{extent_in, items_at, pile_items, level_nodes, level_items, items_above, stored_items}
-use Rattle.lt_image.specs.Soundness.{bad_blocks}
+use Rattle.lt_image.specs.Versions.{Opened, open_image, log_items, number_of, extent_in, items_at, pile_items, level_nodes, level_items, items_above, stored_items}
+use Rattle.lt_image.specs.Standing.{bad_blocks, Stands}
 use Rattle.lt_image.specs.After.{SameExtents, Follows, PlacedIn, Flushes}
 use Rattle.lt_image.proofs.KeptLaws.{items_above-same, stored-few}
 use Rattle.lt_image.proofs.OpenLaws.{opens-well}
 use Rattle.lt_image.proofs.StandLaws.{flush-stands, stands-as}
-use Rattle.lt_image.specs.Standing.{Stands}
 use Rattle.lt_language.specs.Machine.{State}
 use Rattle.lt_format.specs.declared.header.Header.{Header}
 use Rattle.lt_format.specs.Log.{items_in}
-use Rattle.lt_format.specs.Naming.{after_commit}
-use Rattle.lt_format.specs.Snapshot.{Manifest}
+use Rattle.lt_format.specs.Snapshot.{after_commit, Manifest}
 
 length-joined : {A B : Type 0} (f : A → List B) (xs : List A) → length (flat_map f xs) ≡ total (λ x. length (f x)) xs
 length-joined f [] = refl

@@ -17,10 +17,8 @@ use Rattle.lt_format.specs.Trie.{child, node_at, path_number, root, with_node}
 use Rattle.lt_image.specs.Bound.{holds_key, is_sent, met, read_bound, reads_of, up_to_first}
 use Rattle.lt_image.specs.Examples.{grouped_trie, inner_deal, inner_trie, last_trie, long_keys, long_put, old_versions, pile, three_keys, two_levels}
 use Rattle.lt_image.specs.Needs.{has_slack}
-use Rattle.lt_image.specs.OnPath.{Stop, stops}
-use Rattle.lt_image.specs.Opening.{Opened}
+use Rattle.lt_image.specs.Versions.{Stop, stops, extent_in, items_at, Opened}
 use Rattle.lt_image.specs.Shares.{deal_shares, kept_groups, needed, new_groups, rewrite_share}
-use Rattle.lt_image.specs.Versions.{extent_in, items_at}
 
 pub inner-shares : deal_shares inner_trie root three_keys ≡ record { node = child root 1; behind = []; parts = (delete_of (codes "d") ∷ []) ∷ [] } ∷ record { node = child root 4; behind = 8 ∷ 9 ∷ []; parts = (put_of (codes "c") (3 ∷ []) ∷ put_of (codes "a") (4 ∷ []) ∷ []) ∷ [] } ∷ []
 unfolding rank_cmp key_hash first_words schedule rounds compress hash_after digest_bytes sha1 node_at first_fit counts_within columns column_load column_mark sent_cost room sendings placement needed

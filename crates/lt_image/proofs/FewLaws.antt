@@ -7,7 +7,7 @@ use Rattle.lt_terms.specs.Bytes.{Image}
 use Rattle.lt_terms.specs.Items.{Item}
 use Rattle.lt_tables.specs.declared.Entry.{Entry}
 use Rattle.lt_tables.specs.Cut.{counts_within, table_count}
-use Rattle.lt_tables.specs.Merge.{newest}
+use Rattle.lt_tables.specs.Table.{newest}
 use Rattle.lt_tables.specs.Placement.{entry_of}
 use Rattle.std.proofs.lemmas.List.{length-map}
 use Rattle.lt_tables.proofs.FitLaws.{total}
@@ -15,10 +15,9 @@ use Rattle.lt_format.specs.declared.geometry.Geometry.{Geometry}
 use Rattle.lt_format.specs.declared.node_id.NodeId.{NodeId}
 use Rattle.lt_format.specs.Trie.{Node, Trie, named, node_extents, is_last_level, is_node, is_shaped}
 use Rattle.lt_format.proofs.ShapeLaws.{is_fine, shaped-inner, shaped-last}
-use Rattle.lt_image.specs.Opening.{Opened, open_image, log_items, number_of}
+use Rattle.lt_image.specs.Versions.{Opened, open_image, log_items, number_of, extent_in, items_at, pile_items, stored_items, free_extents}
 use Rattle.lt_image.specs.Pressure.{flush_tables}
-use Rattle.lt_image.specs.Soundness.{block_if, bad_in_table, bad_table_blocks, bad_node_blocks, bad_blocks}
-use Rattle.lt_image.specs.Versions.{extent_in, items_at, pile_items, stored_items, free_extents}
+use Rattle.lt_image.specs.Standing.{block_if, bad_in_table, bad_table_blocks, bad_node_blocks, bad_blocks}
 use Rattle.lt_image.proofs.AfterLaws.{SoundNodes, sound_nodes}
 use Rattle.lt_image.proofs.CountLaws.{newest-few, held_by, above_long}
 use Rattle.lt_image.proofs.JobCountLaws.{opens-trie}

@@ -6,17 +6,14 @@ use Rattle.std.specs.Cmp.Lexicographic.{bytes_decides}
 use Rattle.std.specs.List.{find, flat_map, AllByRecursion, enumerate_from}
 use Rattle.std.proofs.lemmas.Bool.{eqb-false, eqb-true, eq-eqb, ne_eqb}
 use Rattle.std.proofs.lemmas.List.{get_or-map, get_or-take, get_or-drop, length-map, length-take, length-drop}
-use Rattle.lt_terms.specs.Bytes.{Image, same_bytes}
+use Rattle.lt_terms.specs.Bytes.{Image, same_bytes, is_in}
 use Rattle.lt_terms.specs.Hashes.{key_suffix}
-use Rattle.lt_terms.specs.Numbers.{is_in}
 use Rattle.lt_terms.specs.Items.{Item}
 use Rattle.lt_tables.specs.declared.Sends.{Sends}
 use Rattle.lt_tables.specs.Bucket.{Bucket, Look, moved, absent, bucket_of_page_1, look_in_1, look_of, look_on, sends_on, sent_to}
-use Rattle.lt_tables.specs.Filter.{covers}
-use Rattle.lt_tables.specs.Group.{group_block}
-use Rattle.lt_tables.specs.Merge.{newest}
+use Rattle.lt_tables.specs.Filter.{covers, group_block}
+use Rattle.lt_tables.specs.Table.{newest, IsPlaced}
 use Rattle.lt_tables.specs.Placement.{columns}
-use Rattle.lt_tables.specs.Table.{IsPlaced}
 use Rattle.lt_tables.proofs.FilterLaws.{length-filter_block}
 use Rattle.lt_tables.proofs.GroupLaws.{ArePages, groups-cover}
 use Rattle.lt_tables.proofs.ListLaws.{all_take, all_drop}
@@ -26,9 +23,8 @@ use Rattle.lt_format.specs.Layout.{extent_block}
 use Rattle.lt_format.specs.Trie.{Node, node_at, is_last_level, groups_for}
 use Rattle.lt_format.proofs.ShapeLaws.{node_at-shaped, shaped-last}
 use Rattle.lt_image.specs.Bound.{distinct_count}
-use Rattle.lt_image.specs.Opening.{Opened, open_image}
-use Rattle.lt_image.specs.Soundness.{bad_table_blocks, bad_group_blocks, bad_node_blocks, bad_blocks, filter_blocks}
-use Rattle.lt_image.specs.Versions.{extent_in, items_at}
+use Rattle.lt_image.specs.Versions.{Opened, open_image, extent_in, items_at}
+use Rattle.lt_image.specs.Standing.{bad_table_blocks, bad_group_blocks, bad_node_blocks, bad_blocks, filter_blocks}
 use Rattle.lt_image.proofs.AfterLaws.{node_at-holds, sound_nodes}
 use Rattle.lt_image.proofs.JobCountLaws.{opens-trie}
 use Rattle.lt_image.proofs.PlacedLaws.{named-placed, nothing_kept}

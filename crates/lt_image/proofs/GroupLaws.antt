@@ -6,7 +6,7 @@ use Rattle.std.proofs.lemmas.List.Concat.{flat_map-append}
 use Rattle.std.proofs.lemmas.List.{drop-append-le, take-append-le, length-drop}
 use Rattle.lt_terms.specs.Bytes.{Image, same_bytes}
 use Rattle.lt_tables.specs.Placement.{columns}
-use Rattle.lt_tables.specs.Group.{group_block, IsGroup}
+use Rattle.lt_tables.specs.Filter.{group_block, IsGroup}
 use Rattle.lt_tables.proofs.FitLaws.{all_weaker}
 use Rattle.lt_format.specs.declared.node_id.NodeId.{NodeId}
 use Rattle.lt_format.specs.declared.geometry.Geometry.{Geometry}
@@ -15,7 +15,7 @@ use Rattle.lt_format.specs.Trie.{Node, Trie, same_node, node_at, named}
 use Rattle.lt_format.specs.Changes.{ChildChange, deal, rewrite, child_after, after_child, without_oldest, after_change}
 use Rattle.lt_format.proofs.TrieLaws.{node_at-with_node, if_any}
 use Rattle.lt_image.specs.After.{SameExtents, IsGroupAt}
-use Rattle.lt_image.specs.Soundness.{bad_table_blocks, bad_group_blocks, bad_node_blocks, filter_blocks}
+use Rattle.lt_image.specs.Standing.{bad_table_blocks, bad_group_blocks, bad_node_blocks, filter_blocks}
 use Rattle.lt_image.specs.Versions.{extent_in}
 use Rattle.lt_image.proofs.AfterLaws.{NewTable, SoundNodes, kept-nodes, node_at-holds, sound_tables, no_groups, node_tables_sound}
 use Rattle.lt_image.proofs.ChangeLaws.{with_node-all}

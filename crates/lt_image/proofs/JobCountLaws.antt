@@ -11,7 +11,7 @@ use Rattle.lt_terms.specs.Hashes.{key_digit}
 use Rattle.lt_terms.specs.Items.{Item}
 use Rattle.lt_language.specs.Machine.{State}
 use Rattle.lt_tables.specs.Cut.{cut}
-use Rattle.lt_tables.specs.Merge.{newest, with_digit, without_deletes, is_put}
+use Rattle.lt_tables.specs.Table.{newest, with_digit, without_deletes, is_put}
 use Rattle.lt_tables.proofs.CutLaws.{cut-joined}
 use Rattle.lt_tables.proofs.FitLaws.{total}
 use Rattle.lt_tables.proofs.ListLaws.{all_take}
@@ -20,8 +20,7 @@ use Rattle.lt_format.specs.declared.node_id.NodeId.{NodeId}
 use Rattle.lt_format.specs.declared.geometry.Geometry.{Geometry}
 use Rattle.lt_format.specs.Changes.{ChildChange, deal, rewrite, fits, child_after, after_child, without_oldest, after_change}
 use Rattle.lt_format.specs.Log.{items_in}
-use Rattle.lt_format.specs.Naming.{may_commit, log_moves, after_commit}
-use Rattle.lt_format.specs.Snapshot.{Manifest}
+use Rattle.lt_format.specs.Snapshot.{may_commit, log_moves, after_commit, Manifest}
 use Rattle.lt_format.specs.Trie.{Node, Trie, node_cmp, node_at, with_node, named, is_last_level, IsTrie}
 use Rattle.lt_format.proofs.ChildLaws.{children-elsewhere}
 use Rattle.lt_format.proofs.FreeLaws.{bare_inner}
@@ -29,11 +28,9 @@ use Rattle.lt_format.proofs.NamedLaws.{children-rising}
 use Rattle.lt_format.proofs.ReadLaws.{manifest_of-named}
 use Rattle.lt_format.proofs.TrieLaws.{with_node-rising}
 use Rattle.lt_image.specs.After.{SameExtent, SameExtents, Gets, Deals, Rewrites}
-use Rattle.lt_image.specs.Opening.{Opened, open_image, log_items, number_of}
+use Rattle.lt_image.specs.Versions.{Opened, open_image, log_items, number_of, items_at, pile_items, items_above, stored_items}
 use Rattle.lt_image.specs.Shares.{child_share, has_tables, deal_shares, rewrite_share}
-use Rattle.lt_image.specs.Soundness.{bad_blocks}
-use Rattle.lt_image.specs.Standing.{Stands}
-use Rattle.lt_image.specs.Versions.{items_at, pile_items, items_above, stored_items}
+use Rattle.lt_image.specs.Standing.{bad_blocks, Stands}
 use Rattle.lt_image.proofs.CountLaws.{newest-few, spread, spread_few, parts_few, with_node-weight, held_by, held_none, above_long}
 use Rattle.lt_image.proofs.JobLaws.{deal-sound, deal-keeps, rewrite-sound, rewrite-keeps}
 use Rattle.lt_image.proofs.KeptLaws.{items_above-same, pile_same, stored-few}

@@ -5,7 +5,7 @@ use Rattle.std.specs.List.{AllByRecursion, enumerate_from}
 use Rattle.lt_terms.specs.Bytes.{Image}
 use Rattle.lt_terms.specs.Items.{Item}
 use Rattle.lt_terms.specs.Hashes.{key_digit}
-use Rattle.lt_tables.specs.Merge.{newest, with_digit, without_deletes, is_put}
+use Rattle.lt_tables.specs.Table.{newest, with_digit, without_deletes, is_put}
 use Rattle.lt_tables.proofs.ListLaws.{all_filter, all_left, all_right, all_take}
 use Rattle.lt_tables.proofs.PartLaws.{ranked-filter}
 use Rattle.lt_tables.proofs.RankedLaws.{newest-ranked, each_newest}
@@ -15,9 +15,8 @@ use Rattle.lt_format.specs.declared.geometry.Geometry.{Geometry}
 use Rattle.lt_format.specs.Trie.{Trie, child, path, path_number, same_node, node_at, IsTrie}
 use Rattle.lt_format.specs.Changes.{ChildChange, deal, rewrite}
 use Rattle.lt_format.proofs.TrieLaws.{same_node-same, same_node-itself}
-use Rattle.lt_image.specs.Opening.{Opened}
-use Rattle.lt_image.specs.Versions.{extent_in, items_at, pile_items, map_of, stored_items}
-use Rattle.lt_image.specs.Soundness.{bad_blocks}
+use Rattle.lt_image.specs.Versions.{Opened, extent_in, items_at, pile_items, map_of, stored_items}
+use Rattle.lt_image.specs.Standing.{bad_blocks}
 use Rattle.lt_image.specs.After.{Deals, Rewrites, IsGroupAt}
 use Rattle.lt_image.proofs.AfterLaws.{NewTable, node_at-holds, sound_by_nodes, sound_nodes}
 use Rattle.lt_image.proofs.DealtLaws.{IsChild, children_fit-children, dealt_to, path_number-suc}

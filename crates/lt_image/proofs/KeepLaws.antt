@@ -4,7 +4,7 @@ use Rattle.std.specs.List.{flat_map, AllByRecursion}
 use Rattle.std.specs.Option.{option_or}
 use Rattle.std.proofs.lemmas.List.Concat.{flat_map-append}
 use Rattle.lt_terms.specs.Items.{Item}
-use Rattle.lt_tables.specs.Merge.{newest_of}
+use Rattle.lt_tables.specs.Table.{newest_of}
 use Rattle.lt_tables.specs.Alike.{SameNewest}
 use Rattle.lt_tables.proofs.NewestLaws.{newest_of-append, SameNewest-each}
 use Rattle.lt_format.specs.declared.node_id.NodeId.{NodeId}

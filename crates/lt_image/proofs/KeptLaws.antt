@@ -7,8 +7,7 @@ use Rattle.std.proofs.lemmas.List.Concat.{flat_map-append}
 use Rattle.std.proofs.lemmas.List.Sums.{fold-append}
 use Rattle.std.proofs.lemmas.Bool.{ltb-false}
 use Rattle.lt_terms.specs.Bytes.{Image}
-use Rattle.lt_terms.specs.Items.{Item}
-use Rattle.lt_terms.specs.Maps.{empty_map, applied, after_items}
+use Rattle.lt_terms.specs.Items.{Item, empty_map, applied, after_items}
 use Rattle.lt_language.specs.Machine.{State, nothing_yet, after_write}
 use Rattle.lt_tables.proofs.ListLaws.{all_left, all_right}
 use Rattle.lt_format.specs.declared.node_id.NodeId.{NodeId}
@@ -16,10 +15,8 @@ use Rattle.lt_format.specs.declared.geometry.Geometry.{Geometry}
 use Rattle.lt_format.specs.Layout.{area_block}
 use Rattle.lt_format.specs.Trie.{Node, Trie, named, node_extents}
 use Rattle.lt_format.specs.Log.{items_in}
-use Rattle.lt_image.specs.Opening.{Opened, open_image, log_items}
-use Rattle.lt_image.specs.Versions.{extent_in, pile_items, level_nodes, level_items, items_above, stored_items, versions, map_of}
-use Rattle.lt_image.specs.Soundness.{bad_node_blocks, bad_blocks}
-use Rattle.lt_image.specs.Standing.{Stands, after_writes}
+use Rattle.lt_image.specs.Versions.{Opened, open_image, log_items, extent_in, pile_items, level_nodes, level_items, items_above, stored_items, versions, map_of}
+use Rattle.lt_image.specs.Standing.{bad_node_blocks, bad_blocks, Stands, after_writes}
 use Rattle.lt_image.specs.After.{SameExtent, SameExtents, Keeps}
 use Rattle.lt_image.proofs.SoundLaws.{nil_append, nil_block_if}
 use Rattle.lt_image.proofs.MapLaws.{same_items}

@@ -1,21 +1,19 @@
 -- What an image stands for rests on the blocks that its manifest names.
 use Rattle.std.proofs.Common.{◌≡◌, length, ℕ, zero, suc, ◌+◌, ◌*◌, ◌/◌, ◌-◌, ◌<◌, ◌≤◌, refl, sym, ap, subst, ◌∙◌, [], true, false, not, ◌&&◌, Result, Ok, arith}
 use Rattle.std.specs.Prelude.{IsFalse, nat_le, nat_lt}
-use Rattle.lt_terms.specs.Bytes.{Image, block_at}
+use Rattle.lt_terms.specs.Bytes.{Image, block_at, is_in}
 use Rattle.lt_language.specs.Machine.{State}
 use Rattle.std.proofs.lemmas.Bool.{lt-leb, le-leb, lt-ltb, leb-true, ltb-true, and_parts, and_from, not-true, not_from_false}
 use Rattle.std.proofs.Math.Bool.{and-false}
-use Rattle.lt_terms.specs.Numbers.{is_in}
 use Rattle.lt_tables.proofs.CoverLaws.{within_itself}
 use Rattle.lt_tables.proofs.FitLaws.{all_weaker}
 use Rattle.lt_format.specs.Layout.{log_gate, log_content, extent_block, extent_blocks}
 use Rattle.lt_format.specs.Log.{log_groups}
-use Rattle.lt_format.specs.Snapshot.{◌>>=◌}
-use Rattle.lt_format.specs.Naming.{Named, manifest_of}
+use Rattle.lt_format.specs.Snapshot.{◌>>=◌, Named, manifest_of}
 use Rattle.lt_format.specs.Trie.{named}
 use Rattle.lt_format.proofs.LocalLaws.{manifest-local, SameBlock, log_from-same}
 use Rattle.lt_format.proofs.ReadLaws.{ok_same, manifest_of-named}
-use Rattle.lt_image.specs.Opening.{Opened, open_image}
+use Rattle.lt_image.specs.Versions.{Opened, open_image}
 use Rattle.lt_image.specs.Standing.{Stands, is_free_block}
 use Rattle.lt_image.specs.After.{SameExtent, SameExtents, SameNamed}
 use Rattle.lt_image.proofs.OpenLaws.{opens-is}

@@ -5,12 +5,10 @@ use Rattle.std.specs.FinMap.{same_map, slice_cmp-IsAntisymmetric, nat_cmp-IsAnti
 use Rattle.std.specs.List.{flat_map, AllByRecursion}
 use Rattle.std.specs.Option.{option_or, unwrap_or}
 use Rattle.lt_terms.specs.Bytes.{Image}
-use Rattle.lt_terms.specs.Items.{Item}
-use Rattle.lt_terms.specs.Maps.{Map, value_at}
+use Rattle.lt_terms.specs.Items.{Item, Map, value_at}
 use Rattle.lt_tables.specs.Bucket.{items_on}
 use Rattle.lt_tables.specs.Placement.{columns}
-use Rattle.lt_tables.specs.Table.{table_items}
-use Rattle.lt_tables.specs.Merge.{newest_of, value_of}
+use Rattle.lt_tables.specs.Table.{table_items, newest_of, value_of}
 use Rattle.lt_tables.specs.Alike.{SameNewest}
 use Rattle.lt_tables.proofs.FitLaws.{all_weaker}
 use Rattle.lt_tables.proofs.TableLaws.{flat_map-range}
@@ -21,8 +19,7 @@ use Rattle.lt_format.specs.declared.node_id.NodeId.{NodeId}
 use Rattle.lt_format.specs.declared.geometry.Geometry.{Geometry}
 use Rattle.lt_format.specs.Trie.{Node, Trie, node_cmp, node_at, named, node_extents, empty_node}
 use Rattle.lt_format.specs.Changes.{Change, flush, after_change}
-use Rattle.lt_image.specs.Opening.{Opened, log_items}
-use Rattle.lt_image.specs.Versions.{extent_in, items_at, versions, map_of}
+use Rattle.lt_image.specs.Versions.{Opened, log_items, extent_in, items_at, versions, map_of}
 use Rattle.lt_image.proofs.Words.{IsSorted, on_level, on_path}
 use Rattle.lt_image.specs.After.{SameExtents, Follows}
 use Rattle.lt_image.proofs.PathLaws.{newest_of-versions}

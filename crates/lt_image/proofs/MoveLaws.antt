@@ -6,7 +6,7 @@ use Rattle.std.specs.Option.{option_or}
 use Rattle.std.proofs.lemmas.List.Concat.{flat_map-append}
 use Rattle.lt_terms.specs.Hashes.{key_digit}
 use Rattle.lt_terms.specs.Items.{Item}
-use Rattle.lt_tables.specs.Merge.{newest_of, newest, with_digit, without_deletes, value_of}
+use Rattle.lt_tables.specs.Table.{newest_of, newest, with_digit, without_deletes, value_of}
 use Rattle.lt_tables.specs.Alike.{SameNewest}
 use Rattle.lt_tables.proofs.ListLaws.{all_drop}
 use Rattle.lt_tables.proofs.NewestLaws.{newest_of-append, SameNewest-each, newest_of-newest}

@@ -3,13 +3,12 @@ use Rattle.std.proofs.Common.{◌≡◌, ℕ, suc, ◌<◌, sym, ap, ◌∙◌, 
 use Rattle.std.specs.List.{flat_map}
 use Rattle.std.specs.Option.{option_or}
 use Rattle.lt_terms.specs.Bytes.{Image}
-use Rattle.lt_tables.specs.Merge.{newest_of, newest, value_of, without_deletes}
+use Rattle.lt_tables.specs.Table.{newest_of, newest, value_of, without_deletes}
 use Rattle.lt_tables.specs.Alike.{SameNewest}
 use Rattle.lt_format.specs.declared.node_id.NodeId.{NodeId}
 use Rattle.lt_format.specs.Trie.{node_at}
 use Rattle.lt_format.specs.Changes.{ChildChange, deal, rewrite, after_change}
-use Rattle.lt_image.specs.Opening.{Opened, log_items}
-use Rattle.lt_image.specs.Versions.{items_at, map_of}
+use Rattle.lt_image.specs.Versions.{Opened, log_items, items_at, map_of}
 use Rattle.lt_image.specs.After.{Follows}
 use Rattle.lt_image.proofs.MapLaws.{maps_same, read_by, read_versions, read_after, kept-tables}
 use Rattle.lt_image.proofs.MoveLaws.{DealsOut, deal-found, rewrite-value}

@@ -11,10 +11,9 @@ use Rattle.lt_format.specs.declared.geometry.Geometry.{Geometry}
 use Rattle.lt_format.specs.Layout.{is_geometry, is_open, log_gate, log_content, first_open, closed_from}
 use Rattle.lt_format.specs.Log.{group_room, log_room, group_on, items_in, log_fits, with_group, read_with, log_from, log_groups}
 use Rattle.lt_format.specs.Trie.{root, node_cmp, node_at, IsTrie}
-use Rattle.lt_format.specs.Snapshot.{◌>>=◌}
-use Rattle.lt_format.specs.Naming.{Named, manifest_of}
+use Rattle.lt_format.specs.Snapshot.{◌>>=◌, Named, manifest_of}
 use Rattle.lt_format.proofs.ReadLaws.{bind_ok, ok_same, manifest_of-named}
-use Rattle.lt_image.specs.Opening.{Opened, open_image, log_items}
+use Rattle.lt_image.specs.Versions.{Opened, open_image, log_items}
 use Rattle.lt_image.proofs.RootLaws.{root-bare}
 
 -- an image that opens has a manifest, and a log that this names

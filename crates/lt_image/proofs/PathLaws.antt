@@ -10,21 +10,16 @@ use Rattle.std.proofs.lemmas.Bool.{and_parts}
 use mathlib.Core.List.{reverse-cons}
 use Rattle.std.proofs.lemmas.List.Concat.{flat_map-append}
 use Rattle.lt_terms.specs.Bytes.{Image, same_bytes}
-use Rattle.lt_terms.specs.Items.{Item}
-use Rattle.lt_terms.specs.Maps.{value_at}
-use Rattle.lt_tables.specs.Merge.{versions_of, newest_of, value_of}
-use Rattle.lt_tables.proofs.RankLaws.{newest_or}
+use Rattle.lt_terms.specs.Items.{Item, value_at}
+use Rattle.lt_tables.specs.Table.{versions_of, newest_of, value_of}
+use Rattle.lt_tables.proofs.RankLaws.{newest_or, newest_or-none}
 use Rattle.lt_tables.proofs.NewestLaws.{newest_of-append}
-use Rattle.lt_tables.proofs.RankLaws.{newest_or-none}
 use Rattle.lt_tables.proofs.VersionLaws.{get_versions}
 use Rattle.lt_format.specs.declared.node_id.NodeId.{NodeId}
 use Rattle.lt_format.specs.declared.geometry.Geometry.{Geometry}
 use Rattle.lt_format.specs.Trie.{Node, Trie, path, same_node, node_cmp, node_at, empty_node}
 use Rattle.lt_format.proofs.TrieLaws.{same_node-same, find-below}
-use Rattle.lt_image.specs.OnPath.{Stop, stops_of}
-use Rattle.lt_image.specs.Opening.{Opened, log_items}
-use Rattle.lt_image.specs.Versions.{items_at, items_above, level_nodes, versions, map_of}
-use Rattle.lt_image.specs.OnPath.{first_some, at_stops, found}
+use Rattle.lt_image.specs.Versions.{Stop, stops_of, items_at, items_above, level_nodes, versions, map_of, first_some, at_stops, found, Opened, log_items}
 use Rattle.lt_image.proofs.Words.{Belongs, PileBelongs, IsSorted, on_level, on_path}
 
 pub newest_or-is : (a b : Option Item) → newest_or a b ≡ option_or b a

@@ -10,8 +10,7 @@ use Rattle.lt_terms.specs.Items.{Item}
 use Rattle.lt_tables.specs.declared.ColumnPlan.{ColumnPlan}
 use Rattle.lt_tables.specs.Filter.{covers, filter_block}
 use Rattle.lt_tables.specs.Placement.{columns, placement_of}
-use Rattle.lt_tables.specs.Table.{bucket_in, IsPlaced}
-use Rattle.lt_tables.specs.Merge.{newest, newest_of}
+use Rattle.lt_tables.specs.Table.{bucket_in, IsPlaced, newest, newest_of}
 use Rattle.lt_tables.proofs.NewestLaws.{newest_of-newest}
 use Rattle.lt_tables.proofs.CoverLaws.{covers-filter_block}
 use Rattle.lt_tables.proofs.FitLaws.{all_weaker}
@@ -19,9 +18,8 @@ use Rattle.lt_format.specs.declared.node_id.NodeId.{NodeId}
 use Rattle.lt_format.specs.declared.geometry.Geometry.{Geometry}
 use Rattle.lt_format.specs.Layout.{extent_block}
 use Rattle.lt_format.specs.Trie.{Node, node_at}
-use Rattle.lt_image.specs.Opening.{Opened}
-use Rattle.lt_image.specs.Versions.{extent_in, items_at}
-use Rattle.lt_image.specs.Soundness.{block_if, spells, misplaced_columns, bad_in_table, bad_table_blocks, bad_group_blocks, bad_node_blocks, bad_blocks}
+use Rattle.lt_image.specs.Versions.{Opened, extent_in, items_at}
+use Rattle.lt_image.specs.Standing.{block_if, spells, misplaced_columns, bad_in_table, bad_table_blocks, bad_group_blocks, bad_node_blocks, bad_blocks}
 use Rattle.lt_image.proofs.SoundLaws.{nil_append, nil_map, nil_flat_map, nil_block_if}
 use Rattle.lt_image.proofs.SpellsLaws.{spells-reads}
 use Rattle.lt_image.proofs.AfterLaws.{node_at-holds, sound_nodes}

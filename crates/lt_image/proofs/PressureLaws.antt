@@ -5,7 +5,7 @@ use Rattle.std.specs.List.{list_all}
 use Rattle.lt_terms.specs.Bytes.{Image}
 use Rattle.lt_tables.proofs.ListLaws.{all_left, all_right}
 use Rattle.lt_format.specs.declared.node_id.NodeId.{NodeId}
-use Rattle.lt_format.specs.Naming.{Named}
+use Rattle.lt_format.specs.Snapshot.{Named}
 use Rattle.lt_format.specs.Trie.{Node, Trie, named, node_at, node_extents, is_last_level}
 use Rattle.lt_image.specs.After.{SameExtent, SameExtents}
 use Rattle.lt_image.specs.Needs.{is_full, is_twice_full, node_items, has_slack, is_slack, waits, is_settled, is_paced, is_exhausted}

@@ -14,9 +14,9 @@ use Rattle.lt_format.specs.Trie.{Node, Trie, root, path, node_cmp, same_node, no
 use Rattle.lt_format.specs.Changes.{flush, appended, after_change}
 use Rattle.lt_format.proofs.TrieLaws.{same_node-same, same_node-itself}
 use Rattle.lt_format.proofs.ShapeLaws.{shaped-inner, node_at-shaped}
-use Rattle.lt_image.specs.OnPath.{Stop, first_some, at_stops, stops_of, stops, has_only_root}
+use Rattle.lt_image.specs.Versions.{Stop, first_some, at_stops, stops_of, stops, has_only_root}
 use Rattle.lt_terms.specs.Items.{Item}
-use Rattle.lt_tables.specs.Merge.{newest_of}
+use Rattle.lt_tables.specs.Table.{newest_of}
 use Rattle.lt_image.proofs.PathLaws.{first_some-pile}
 use Rattle.lt_image.proofs.ChangeLaws.{with_node-all, path-root, tables-flush}
 use Rattle.lt_image.proofs.KeepLaws.{other_level}

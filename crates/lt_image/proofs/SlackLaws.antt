@@ -10,10 +10,9 @@ use Rattle.std.proofs.lemmas.List.Sums.{sum_by-cons}
 use Rattle.lt_terms.specs.Bytes.{Image, same_bytes}
 use Rattle.lt_terms.specs.Items.{Item}
 use Rattle.lt_tables.specs.Placement.{columns}
-use Rattle.lt_tables.specs.Table.{IsPlaced, place_of, table_items}
+use Rattle.lt_tables.specs.Table.{IsPlaced, place_of, table_items, newest, newest_of, versions_of, is_put, has_two_versions, without_deletes}
 use Rattle.lt_tables.specs.Alike.{SameNewest}
 use Rattle.lt_tables.specs.Cut.{cut}
-use Rattle.lt_tables.specs.Merge.{newest, newest_of, versions_of, is_put, has_two_versions, without_deletes}
 use Rattle.lt_tables.proofs.CutLaws.{cut-joined}
 use Rattle.lt_tables.proofs.ListLaws.{all_drop, all_filter, all_join, all_take}
 use Rattle.lt_tables.proofs.NewestLaws.{newest-alike}
@@ -23,7 +22,7 @@ use Rattle.lt_tables.proofs.RankedLaws.{is_ranked, ranked-newest, newest-ranked,
 use Rattle.lt_tables.proofs.TableLaws.{table_items-placed, versions_of-placed}
 use Rattle.lt_format.specs.declared.geometry.Geometry.{Geometry}
 use Rattle.lt_format.specs.declared.node_id.NodeId.{NodeId}
-use Rattle.lt_format.specs.Naming.{Named}
+use Rattle.lt_format.specs.Snapshot.{Named}
 use Rattle.lt_format.specs.Trie.{Trie, is_last_level, groups_for}
 use Rattle.lt_image.specs.After.{Gets, PlacedIn}
 use Rattle.lt_image.specs.Needs.{has_slack, is_slack}

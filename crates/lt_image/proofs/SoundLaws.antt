@@ -5,12 +5,10 @@ use Rattle.std.specs.FinMap.{is_sorted}
 use Rattle.std.specs.List.{flat_map, list_any, AllByRecursion, enumerate_from}
 use Rattle.std.proofs.lemmas.Bool.{or_parts, not-false}
 use Rattle.lt_terms.specs.Bytes.{Image, same_bytes}
-use Rattle.lt_terms.specs.Items.{Item}
-use Rattle.lt_terms.specs.Maps.{value_at, after_items}
+use Rattle.lt_terms.specs.Items.{Item, value_at, after_items}
 use Rattle.lt_tables.specs.Bucket.{items_on}
 use Rattle.lt_tables.specs.Placement.{columns}
-use Rattle.lt_tables.specs.Table.{table_items}
-use Rattle.lt_tables.specs.Merge.{newest, newest_of, value_of}
+use Rattle.lt_tables.specs.Table.{table_items, newest, newest_of, value_of}
 use Rattle.lt_tables.proofs.FitLaws.{all_weaker}
 use Rattle.std.specs.Option.{option_or}
 use Rattle.lt_tables.proofs.VersionLaws.{newest_value, get_after_items}
@@ -19,10 +17,8 @@ use Rattle.lt_format.specs.declared.node_id.NodeId.{NodeId}
 use Rattle.lt_format.specs.declared.geometry.Geometry.{Geometry}
 use Rattle.lt_format.specs.Layout.{extent_block}
 use Rattle.lt_format.specs.Trie.{Node, path, same_node, node_cmp}
-use Rattle.lt_image.specs.Opening.{Opened, log_items}
-use Rattle.lt_image.specs.Versions.{extent_in, items_at, versions, map_of}
-use Rattle.lt_image.specs.Soundness.{block_if, located_items, stray_columns, bad_in_table, bad_table_blocks, bad_group_blocks, bad_node_blocks, bad_blocks}
-use Rattle.lt_image.specs.OnPath.{at_stops, found}
+use Rattle.lt_image.specs.Versions.{Opened, log_items, extent_in, items_at, versions, map_of, at_stops, found}
+use Rattle.lt_image.specs.Standing.{block_if, located_items, stray_columns, bad_in_table, bad_table_blocks, bad_group_blocks, bad_node_blocks, bad_blocks}
 use Rattle.lt_image.proofs.Words.{Belongs, PileBelongs, IsSorted}
 use Rattle.lt_image.proofs.PathLaws.{newest_or-is, newest_of-found, value_at-map_of}
 use Rattle.std.proofs.lemmas.List.{map-append}

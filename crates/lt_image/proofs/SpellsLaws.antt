@@ -12,7 +12,7 @@ use Rattle.lt_terms.specs.Bytes.{same_bytes}
 use Rattle.lt_terms.specs.Items.{Item, kind_byte}
 use Rattle.lt_tables.specs.declared.Sends.{Sends}
 use Rattle.lt_tables.specs.Bucket.{Bucket, bucket_of}
-use Rattle.lt_image.specs.Soundness.{same_item, same_sends, same_bucket, spells}
+use Rattle.lt_image.specs.Standing.{same_item, same_sends, same_bucket, spells}
 
 one_kind : (a b : Kind) → (kind_byte a == kind_byte b) ≡ true → a ≡ b
 one_kind Put Put h = refl

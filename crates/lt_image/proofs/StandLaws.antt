@@ -2,10 +2,8 @@
 use Rattle.std.proofs.Common.{◌≡◌, ℕ, suc, ◌-◌, ◌≤◌, List, [], ◌∙◌, Ok, subst, arith}
 use Rattle.lt_terms.specs.Bytes.{Image}
 use Rattle.lt_language.specs.Machine.{State}
-use Rattle.lt_image.specs.Opening.{Opened, open_image, number_of}
-use Rattle.lt_image.specs.Versions.{map_of}
-use Rattle.lt_image.specs.Soundness.{bad_blocks}
-use Rattle.lt_image.specs.Standing.{Stands}
+use Rattle.lt_image.specs.Versions.{Opened, open_image, number_of, map_of}
+use Rattle.lt_image.specs.Standing.{bad_blocks, Stands}
 use Rattle.lt_image.specs.After.{Flushes}
 use Rattle.lt_image.proofs.OpenLaws.{opened-same, opens-well, log_items-valid}
 use Rattle.lt_image.proofs.WholeLaws.{flush-sound, flush-keeps}

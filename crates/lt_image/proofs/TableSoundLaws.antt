@@ -12,13 +12,12 @@ use Rattle.lt_tables.specs.declared.ColumnPlan.{ColumnPlan}
 use Rattle.lt_tables.specs.Bucket.{bucket_of, items_on}
 use Rattle.lt_tables.specs.Filter.{filter_block}
 use Rattle.lt_tables.specs.Placement.{columns, placement_of}
-use Rattle.lt_tables.specs.Table.{place_of, bucket_in, IsPlaced, table_items}
-use Rattle.lt_tables.specs.Merge.{versions_of, newest_of, newest}
+use Rattle.lt_tables.specs.Table.{place_of, bucket_in, IsPlaced, table_items, versions_of, newest_of, newest}
 use Rattle.lt_tables.proofs.NewestLaws.{newest-alike}
 use Rattle.lt_tables.proofs.TableLaws.{flat_map-range, table_items-placed, versions_of-placed, SameNewest-placed}
 use Rattle.lt_format.specs.declared.node_id.NodeId.{NodeId}
 use Rattle.lt_format.specs.Trie.{path, same_node}
-use Rattle.lt_image.specs.Soundness.{block_if, spells, located_items, stray_columns, misplaced_columns, bad_in_table}
+use Rattle.lt_image.specs.Standing.{block_if, spells, located_items, stray_columns, misplaced_columns, bad_in_table}
 use Rattle.lt_image.proofs.Words.{Belongs}
 use Rattle.lt_image.proofs.PathLaws.{Belongs-append}
 use Rattle.lt_tables.proofs.PlanLaws.{placement-within}

@@ -6,9 +6,8 @@ use Rattle.std.specs.List.{flat_map, AllByRecursion, AllZip}
 use Rattle.std.proofs.lemmas.Cmp.{eq_by_cmp_equiv}
 use Rattle.lt_terms.specs.Bytes.{Image}
 use Rattle.lt_terms.specs.Items.{Item}
-use Rattle.lt_tables.specs.Merge.{newest}
+use Rattle.lt_tables.specs.Table.{newest, IsPlaced}
 use Rattle.lt_tables.specs.Cut.{cut, IsTable}
-use Rattle.lt_tables.specs.Table.{IsPlaced}
 use Rattle.lt_tables.specs.Alike.{SameNewest}
 use Rattle.lt_tables.proofs.NewestLaws.{SameNewest-flat_map, SameNewest-newest, SameNewest-trans}
 use Rattle.lt_tables.proofs.CutLaws.{cut-joined, cut-tables}
@@ -23,9 +22,8 @@ use Rattle.lt_format.specs.Changes.{Change, flush, after_change}
 use Rattle.lt_image.proofs.ChangeLaws.{path-root}
 use Rattle.lt_format.proofs.TrieLaws.{node_total}
 use Rattle.lt_format.proofs.NamedLaws.{after_change-rising}
-use Rattle.lt_image.specs.Opening.{Opened, log_items}
-use Rattle.lt_image.specs.Versions.{extent_in, items_at, map_of}
-use Rattle.lt_image.specs.Soundness.{bad_blocks}
+use Rattle.lt_image.specs.Versions.{Opened, log_items, extent_in, items_at, map_of}
+use Rattle.lt_image.specs.Standing.{bad_blocks}
 use Rattle.lt_image.proofs.Words.{Belongs}
 use Rattle.lt_image.specs.After.{Follows, PlacedIn, Flushes}
 use Rattle.lt_image.proofs.SoundLaws.{sound-sorted}

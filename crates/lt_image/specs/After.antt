@@ -3,20 +3,18 @@ use Rattle.std.specs.Prelude.{◌≡◌, ℕ, ◌+◌, ◌*◌, ◌<◌, ◌≤�
 use Rattle.std.specs.List.{AllByRecursion, AllZip, enumerate_from}
 use Rattle.lt_terms.specs.Bytes.{Image, block_at}
 use Rattle.lt_terms.specs.Items.{Item}
-use Rattle.lt_tables.specs.Merge.{newest}
+use Rattle.lt_tables.specs.Table.{newest, IsPlaced}
 use Rattle.lt_tables.specs.Cut.{cut}
-use Rattle.lt_tables.specs.Table.{IsPlaced}
-use Rattle.lt_tables.specs.Group.{IsGroup}
+use Rattle.lt_tables.specs.Filter.{IsGroup}
 use Rattle.lt_format.specs.declared.geometry.Geometry.{Geometry}
 use Rattle.lt_format.specs.declared.node_id.NodeId.{NodeId}
 use Rattle.lt_format.specs.Layout.{extent_blocks, log_gate}
-use Rattle.lt_format.specs.Naming.{Named}
+use Rattle.lt_format.specs.Snapshot.{Named}
 use Rattle.lt_format.specs.Trie.{node_at, named}
 use Rattle.lt_format.specs.Changes.{Change, ChildChange, flush, deal, rewrite, fits, after_change}
-use Rattle.lt_image.specs.Opening.{Opened, log_items}
+use Rattle.lt_image.specs.Versions.{Opened, log_items, extent_in, pile_items, stored_items}
 use Rattle.lt_image.specs.Shares.{Share, deal_shares, rewrite_share}
-use Rattle.lt_image.specs.Soundness.{filter_blocks}
-use Rattle.lt_image.specs.Versions.{extent_in, pile_items, stored_items}
+use Rattle.lt_image.specs.Standing.{filter_blocks}
 
 -- the blocks of an extent are the same in both images
 abbrev pub SameExtent : Geometry → Image → Image → ℕ → Type 0

@@ -3,18 +3,15 @@ use Rattle.std.specs.Prelude.{ℕ, suc, ◌+◌, ◌/◌, Bool, false, ◌&&◌,
 use Rattle.std.specs.Prelude.{if◌then◌else◌}
 use Rattle.std.specs.Option.{option_map_or}
 use Rattle.std.specs.List.{filter, list_any}
-use Rattle.lt_terms.specs.Bytes.{Image, same_bytes}
+use Rattle.lt_terms.specs.Bytes.{Image, same_bytes, is_in}
 use Rattle.lt_terms.specs.Items.{Item}
 use Rattle.lt_terms.specs.Hashes.{home_column, key_suffix}
-use Rattle.lt_terms.specs.Numbers.{is_in}
 use Rattle.lt_tables.specs.Bucket.{sends_on}
 use Rattle.lt_tables.specs.Filter.{covers}
 use Rattle.lt_tables.specs.declared.Sends.{Sends}
 use Rattle.lt_format.specs.declared.geometry.Geometry.{Geometry}
 use Rattle.lt_format.specs.Trie.{Trie, is_last_level}
-use Rattle.lt_image.specs.Opening.{Opened, log_items}
-use Rattle.lt_image.specs.OnPath.{Stop, stops}
-use Rattle.lt_image.specs.Versions.{extent_in, items_at}
+use Rattle.lt_image.specs.Versions.{Opened, log_items, Stop, stops, extent_in, items_at}
 
 -- up to and with the first that passes the test, or all
 abbrev pub up_to_first : {A : Type 0} → (A → Bool) → List A → List A

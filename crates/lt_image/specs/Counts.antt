@@ -1,11 +1,10 @@
 -- The numbers that an image has.
 use Rattle.std.specs.Prelude.{◌≡◌, ℕ, Ok, IsTrue}
 use Rattle.lt_terms.specs.Bytes.{Image}
-use Rattle.lt_format.specs.Naming.{Named, manifest_of}
+use Rattle.lt_format.specs.Snapshot.{Named, manifest_of}
 use Rattle.lt_format.specs.Trie.{table_total}
-use Rattle.lt_image.specs.Opening.{Opened, open_image}
+use Rattle.lt_image.specs.Versions.{Opened, open_image, free_extents}
 use Rattle.lt_image.specs.Pressure.{flush_tables, is_flush_due}
-use Rattle.lt_image.specs.Versions.{free_extents}
 
 -- the image's manifest names this many tables, and this many extents are not named
 pub record HasCounts (image : Image) (tables free : ℕ) : Type 0 where

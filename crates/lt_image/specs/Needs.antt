@@ -3,9 +3,9 @@ use Rattle.std.specs.Prelude.{ℕ, ◌+◌, ◌*◌, Bool, not, ◌&&◌, ◌||�
 use Rattle.std.specs.List.{list_all, list_any}
 use Rattle.lt_terms.specs.Bytes.{Image}
 use Rattle.lt_terms.specs.Items.{Item}
-use Rattle.lt_tables.specs.Merge.{is_put, has_two_versions}
+use Rattle.lt_tables.specs.Table.{is_put, has_two_versions}
 use Rattle.lt_format.specs.declared.node_id.NodeId.{NodeId}
-use Rattle.lt_format.specs.Naming.{Named}
+use Rattle.lt_format.specs.Snapshot.{Named}
 use Rattle.lt_format.specs.Trie.{Node, Trie, is_last_level}
 use Rattle.lt_image.specs.Versions.{pile_items, free_extents}
 use Rattle.lt_image.specs.Shares.{needed}

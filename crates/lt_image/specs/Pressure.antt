@@ -2,8 +2,8 @@
 use Rattle.std.specs.Prelude.{ℕ, Bool, ◌||◌, length, nat_lt, ◌==◌}
 use Rattle.lt_terms.specs.Items.{total_cost}
 use Rattle.lt_tables.specs.Cut.{table_total}
-use Rattle.lt_tables.specs.Merge.{newest}
-use Rattle.lt_image.specs.Opening.{Opened, log_items}
+use Rattle.lt_tables.specs.Table.{newest}
+use Rattle.lt_image.specs.Versions.{Opened, log_items}
 
 -- the tables that a flush of the log gives
 abbrev pub flush_tables : Opened → ℕ

@@ -3,7 +3,7 @@ use Rattle.std.specs.Prelude.{ℕ, ◌+◌, ◌-◌, ◌/◌, Bool, List, [], �
 use Rattle.std.specs.List.{filter, range_with_len, sum_by}
 use Rattle.lt_terms.specs.Items.{Item}
 use Rattle.lt_tables.specs.Cut.{cut}
-use Rattle.lt_tables.specs.Merge.{newest, with_digit, without_deletes}
+use Rattle.lt_tables.specs.Table.{newest, with_digit, without_deletes}
 use Rattle.lt_format.specs.declared.node_id.NodeId.{NodeId}
 use Rattle.lt_format.specs.Trie.{Trie, child, node_at, is_last_level, groups_for}
 

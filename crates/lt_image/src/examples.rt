@@ -12,10 +12,9 @@ ghost use Rattle.lt_image.specs.Bound.{holds_key, read_bound};
 ghost use Rattle.lt_image.specs.Examples.{grouped_trie, inner_deal, inner_trie, last_trie, long_keys, long_put};
 ghost use Rattle.lt_image.specs.Examples.{old_versions, pile, three_keys, two_levels};
 ghost use Rattle.lt_image.specs.Needs.{has_slack};
-ghost use Rattle.lt_image.specs.Opening.{Opened};
+ghost use Rattle.lt_image.specs.Versions.{Opened, extent_in, items_at};
 ghost use Rattle.lt_image.specs.Shares.{Share, deal_shares, kept_groups, needed, new_groups, rewrite_share};
 ghost use Rattle.lt_image.specs.Shares.{share_extents};
-ghost use Rattle.lt_image.specs.Versions.{extent_in, items_at};
 
 /// A deal to two children of an inner level: the newest item of each key goes to the child that its digit
 /// names, the delete too, behind the tables that the child has. The root is left without tables.

@@ -3,16 +3,14 @@
 ghost use Rattle.std.specs.Prelude.{◌≡◌, ℕ, ◌≤◌, List, [], Ok, length};
 ghost use Rattle.lt_terms.specs.Bytes.{Image};
 ghost use Rattle.lt_language.specs.Machine.{State};
-ghost use Rattle.lt_tables.specs.Merge.{newest};
+ghost use Rattle.lt_tables.specs.Table.{newest};
 ghost use Rattle.lt_tables.specs.Cut.{cut};
 ghost use Rattle.lt_format.specs.declared.header.Header.{Header};
 ghost use Rattle.lt_format.specs.Changes.{flush};
-ghost use Rattle.lt_format.specs.Naming.{after_commit};
+ghost use Rattle.lt_format.specs.Snapshot.{after_commit};
 ghost use Rattle.lt_format.specs.Trie.{named};
-ghost use Rattle.lt_image.specs.Opening.{Opened, open_image, log_items, number_of};
-ghost use Rattle.lt_image.specs.Versions.{stored_items, map_of};
-ghost use Rattle.lt_image.specs.Soundness.{bad_blocks};
-ghost use Rattle.lt_image.specs.Standing.{Stands};
+ghost use Rattle.lt_image.specs.Versions.{Opened, open_image, log_items, number_of, stored_items, map_of};
+ghost use Rattle.lt_image.specs.Standing.{bad_blocks, Stands};
 ghost use Rattle.lt_image.specs.After.{SameExtents, Follows, PlacedIn, Flushes};
 
 /// A flush of a sound image leaves a sound image with the same map. So, where the number of writes

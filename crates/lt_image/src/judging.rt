@@ -2,7 +2,7 @@
 
 ghost use Rattle.std.specs.Prelude.{◌≡◌, ℕ, List, Some, IsTrue, ◌↔◌};
 ghost use Rattle.lt_tables.specs.Bucket.{Bucket, bucket_of};
-ghost use Rattle.lt_image.specs.Soundness.{spells};
+ghost use Rattle.lt_image.specs.Standing.{spells};
 
 /// The test whether a page spells a bucket passes exactly where reading the page gives the bucket.
 pub fn pages_spell_what_is_read()

@@ -1,14 +1,13 @@
 //! What an image stands for while its manifest and the extents that this names stay as they are.
 
 ghost use Rattle.std.specs.Prelude.{◌≡◌, ℕ, ◌+◌, ◌<◌, ◌≤◌, List, [], ◌∷◌, ◌++◌, Ok, IsTrue, IsFalse, length};
-ghost use Rattle.lt_terms.specs.Bytes.{Image, block_at};
+ghost use Rattle.lt_terms.specs.Bytes.{Image, block_at, is_in};
 ghost use Rattle.lt_terms.specs.Items.{Item};
 ghost use Rattle.lt_language.specs.Machine.{State, nothing_yet, after_write};
-ghost use Rattle.lt_terms.specs.Numbers.{is_in};
 ghost use Rattle.lt_format.specs.Layout.{extent_block, extent_blocks};
-ghost use Rattle.lt_format.specs.Naming.{Named, manifest_of};
+ghost use Rattle.lt_format.specs.Snapshot.{Named, manifest_of};
 ghost use Rattle.lt_format.specs.Trie.{named};
-ghost use Rattle.lt_image.specs.Opening.{Opened, open_image, log_items};
+ghost use Rattle.lt_image.specs.Versions.{Opened, open_image, log_items};
 ghost use Rattle.lt_image.specs.Standing.{Stands, after_writes, is_free_block};
 ghost use Rattle.lt_image.specs.After.{Keeps, SameNamed};
 

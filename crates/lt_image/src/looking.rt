@@ -5,19 +5,16 @@ ghost use Rattle.std.specs.Prelude.{false, length, nat_le, slice_index};
 ghost use Rattle.std.specs.Option.{option_map_or, option_or};
 ghost use Rattle.lt_terms.specs.Bytes.{Image};
 ghost use Rattle.lt_terms.specs.Hashes.{home_column, key_suffix};
-ghost use Rattle.lt_terms.specs.Items.{Item};
-ghost use Rattle.lt_terms.specs.Maps.{value_at, after_items};
+ghost use Rattle.lt_terms.specs.Items.{Item, value_at, after_items};
 ghost use Rattle.lt_tables.specs.declared.Sends.{Sends};
 ghost use Rattle.lt_tables.specs.Bucket.{look_on, moved, sends_on};
 ghost use Rattle.lt_tables.specs.Filter.{covers};
-ghost use Rattle.lt_tables.specs.Merge.{newest, newest_of, value_of};
-ghost use Rattle.lt_tables.specs.Table.{IsPlaced};
+ghost use Rattle.lt_tables.specs.Table.{newest, newest_of, value_of, IsPlaced};
 ghost use Rattle.lt_format.specs.declared.node_id.NodeId.{NodeId};
 ghost use Rattle.lt_format.specs.Trie.{is_last_level, node_at};
-ghost use Rattle.lt_image.specs.Opening.{Opened, open_image, log_items};
-ghost use Rattle.lt_image.specs.Versions.{extent_in, items_at, versions, map_of};
-ghost use Rattle.lt_image.specs.Soundness.{bad_blocks};
-ghost use Rattle.lt_image.specs.OnPath.{at_stops, found};
+ghost use Rattle.lt_image.specs.Versions.{Opened, open_image, log_items, extent_in, items_at, versions, map_of};
+ghost use Rattle.lt_image.specs.Versions.{at_stops, found};
+ghost use Rattle.lt_image.specs.Standing.{bad_blocks};
 
 /// On a sound image the newest version of a key is what a search along its path finds: the log's
 /// newest, and else that of the first table that holds the key, from the root down and the newest

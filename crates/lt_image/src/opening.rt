@@ -3,10 +3,10 @@
 ghost use Rattle.std.specs.Prelude.{◌≡◌, ◌≤◌, Ok, All, IsTrue};
 ghost use Rattle.lt_terms.specs.Bytes.{Image};
 ghost use Rattle.lt_terms.specs.Items.{is_valid, total_cost};
-ghost use Rattle.lt_tables.specs.Merge.{newest};
+ghost use Rattle.lt_tables.specs.Table.{newest};
 ghost use Rattle.lt_format.specs.Log.{log_groups, log_room};
-ghost use Rattle.lt_format.specs.Naming.{manifest_of};
-ghost use Rattle.lt_image.specs.Opening.{Opened, open_image, log_items};
+ghost use Rattle.lt_format.specs.Snapshot.{manifest_of};
+ghost use Rattle.lt_image.specs.Versions.{Opened, open_image, log_items};
 
 /// An image opens exactly as its manifest and the log that this names. The log's items are valid, and
 /// so are the newest of them, and the log has room for them.

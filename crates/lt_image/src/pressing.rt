@@ -7,13 +7,12 @@ ghost use Rattle.lt_terms.specs.Bytes.{Image};
 ghost use Rattle.lt_format.specs.declared.geometry.Geometry.{Geometry};
 ghost use Rattle.lt_format.specs.declared.node_id.NodeId.{NodeId};
 ghost use Rattle.lt_format.specs.Changes.{ChildChange, deal, fits, new_extents, rewrite};
-ghost use Rattle.lt_format.specs.Naming.{Named};
+ghost use Rattle.lt_format.specs.Snapshot.{Named};
 ghost use Rattle.lt_format.specs.Trie.{Trie, groups_for, is_last_level, named, node_at};
 ghost use Rattle.lt_image.specs.After.{Gets, SameExtents};
-ghost use Rattle.lt_image.specs.Opening.{Opened, number_of, open_image};
+ghost use Rattle.lt_image.specs.Versions.{Opened, number_of, open_image, free_extents};
 ghost use Rattle.lt_image.specs.Pressure.{flush_tables};
-ghost use Rattle.lt_image.specs.Soundness.{bad_blocks};
-ghost use Rattle.lt_image.specs.Versions.{free_extents};
+ghost use Rattle.lt_image.specs.Standing.{bad_blocks};
 ghost use Rattle.lt_image.specs.Shares.{deal_shares, needed, rewrite_share};
 ghost use Rattle.lt_image.specs.Needs.{is_exhausted, is_paced, is_settled, is_slack, node_items, waits};
 

@@ -3,10 +3,10 @@
 ghost use Rattle.std.specs.Prelude.{◌≡◌, ℕ, ◌≤◌, List, [], ◌++◌, IsTrue};
 ghost use Rattle.std.specs.List.{flat_map};
 ghost use Rattle.lt_terms.specs.Items.{Item};
-ghost use Rattle.lt_tables.specs.Merge.{newest_of};
+ghost use Rattle.lt_tables.specs.Table.{newest_of};
 ghost use Rattle.lt_format.specs.Trie.{Trie, root, node_at, named, IsTrie};
 ghost use Rattle.lt_format.specs.Changes.{flush, after_change};
-ghost use Rattle.lt_image.specs.OnPath.{stops_of, stops, at_stops, has_only_root};
+ghost use Rattle.lt_image.specs.Versions.{stops_of, stops, at_stops, has_only_root};
 
 /// In a trie with no node but the root the tables on each path are those of the root's pile, the
 /// newest first, a search finds the newest version in this pile, and its extents are those that are

@@ -2,8 +2,7 @@
 use Rattle.std.proofs.Common.{◌≡◌, ℕ, ◌+◌, ◌-◌, ◌<◌, arith, refl, sym, ap, ◌∙◌, List, [], ◌++◌, length, take, drop, Option, Some, None, append_assoc}
 use Rattle.std.proofs.lemmas.List.{take_rest, append-nil, take-append-drop, length-drop}
 use Rattle.std.proofs.Math.Seq.{take-add}
-use Rattle.lt_io.specs.Source.{Takes}
-use Rattle.lt_io.specs.Sink.{Gains, GainsFront, GainsPart}
+use Rattle.lt_io.specs.Streams.{Takes, Gains, GainsFront, GainsPart}
 
 pub Takes-none : (left : Option (List ℕ)) → Takes left left []
 Takes-none (Some left) = record { front = refl }

@@ -1,5 +1,4 @@
 pub mod Memory
 pub mod Output
 pub mod Pieces
-pub mod Sink
-pub mod Source
+pub mod Streams

@@ -1,7 +1,7 @@
 -- Sources and sinks in memory.
 use Rattle.std.specs.Prelude.{◌≡◌, ℕ, ◌-◌, List, [], ◌∷◌, ◌++◌, length, drop, min, Bool, ◌||◌, nat_le, nat_lt, filter}
 use Rattle.std.specs.List.{flat_map}
-use Rattle.lt_terms.specs.Numbers.{is_in}
+use Rattle.lt_terms.specs.Bytes.{is_in}
 
 -- the pieces that have bytes
 abbrev pub nonempty : List (List ℕ) → List (List ℕ)

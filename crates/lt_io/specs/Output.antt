@@ -5,7 +5,14 @@ use Rattle.lt_io.specs.declared.mem_sink.MemSink.TheInside.{Inside}
 
 -- the sink, seen from outside
 abbrev pub output_of : Inside → MemoryOutput
-output_of sink = record { taken_bytes = sink.taken.items; room_limit = sink.room; step_limit = sink.step; failing_calls = sink.failing.items; next_call = sink.next; fault_count = sink.faults }
+output_of sink = record {
+  taken_bytes = sink.taken.items;
+  room_limit = sink.room;
+  step_limit = sink.step;
+  failing_calls = sink.failing.items;
+  next_call = sink.next;
+  fault_count = sink.faults;
+}
 
 -- it takes at least one byte a write, and has room for all that it may take
 pub record HasRoom (sink : Inside) : Type 0 where

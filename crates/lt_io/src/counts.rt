@@ -1,6 +1,6 @@
 ghost use Rattle.std.specs.Prelude.{◌≡◌};
 ghost use Rattle.lt_terms.specs.Causes.{next_count};
-ghost use Rattle.lt_terms.specs.Numbers.{is_in};
+ghost use Rattle.lt_terms.specs.Bytes.{is_in};
 
 // A count stands still at its type's end.
 pub(super) fn risen(count: u64) -> u64

@@ -8,8 +8,6 @@ mod mem_source;
 mod pieces;
 mod sink;
 mod source;
-#[cfg(test)]
-mod tests;
 
 pub use laws::{gains_compose, takes_compose};
 pub use mem_sink::MemSink;

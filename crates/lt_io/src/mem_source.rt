@@ -1,7 +1,8 @@
-ghost use Rattle.std.specs.Prelude.{◌≡◌, ℕ, ◌<◌, ◌≤◌, List, [], Option, Some, IfOk, OnErr, IsErr, IsOk, IsTrue, ◌↔◌, take, map};
+ghost use Rattle.std.specs.Prelude.{◌≡◌, ℕ, ◌<◌, ◌≤◌, List, [], Option, Some, IfOk, OnErr, IsErr, IsOk, IsTrue, ◌↔◌};
+ghost use Rattle.std.specs.Prelude.{take, map};
 ghost use Rattle.lt_terms.specs.Causes.{HasCause, next_count};
-ghost use Rattle.lt_terms.specs.Numbers.{is_in};
-ghost use Rattle.lt_io.specs.Source.{Takes, IsAtEnd, pieces_after};
+ghost use Rattle.lt_terms.specs.Bytes.{is_in};
+ghost use Rattle.lt_io.specs.Streams.{Takes, IsAtEnd, pieces_after};
 ghost use Rattle.lt_io.specs.Memory.{nonempty, bytes_of, HandsOut};
 
 use super::counts::{is_listed, risen};
@@ -25,14 +26,26 @@ impl Model for MemSource {
 
     ghost Value = { MemoryInput };
 
-    ghost view = { λ s. record { left_pieces = s.pieces; failing_calls = s.failing.items; next_call = s.next; taken_pieces = s.taken; fault_count = s.faults } };
+    ghost view = { λ s. record {
+      left_pieces = s.pieces;
+      failing_calls = s.failing.items;
+      next_call = s.next;
+      taken_pieces = s.taken;
+      fault_count = s.faults;
+    } };
 }
 
 impl MemSource {
     /// Hands out the pieces, a longer piece in parts of 4,096 bytes, empty pieces never. The reads
     /// with these numbers, from 0 on, fail.
     pub fn new(pieces: Vec<Vec<u8>>, failing: Vec<u64>) -> MemSource
-        ensures { result ≡ record { left_pieces = nonempty (map (λ piece. piece.items) pieces.items); failing_calls = failing.items; next_call = 0; taken_pieces = 0; fault_count = 0 } }
+        ensures { result ≡ record {
+          left_pieces = nonempty (map (λ piece. piece.items) pieces.items);
+          failing_calls = failing.items;
+          next_call = 0;
+          taken_pieces = 0;
+          fault_count = 0;
+        } }
     {
         MemSource {
             pieces: Pieces::new(pieces),
@@ -62,7 +75,8 @@ impl Source for MemSource {
 
     fn read(&mut self, into: &mut Page) -> Result<usize, Failed>
         ensures fits { IfOk result (λ n. n ≤ 4096) }
-        ensures bytes { IfOk result (λ n. Takes (Some (bytes_of self.old.left_pieces)) (Some (bytes_of self.new.left_pieces)) (take n into.new)) }
+        ensures bytes { IfOk result (λ n. Takes (Some (bytes_of self.old.left_pieces))
+            (Some (bytes_of self.new.left_pieces)) (take n into.new)) }
         ensures end { IfOk result (λ n. n ≡ 0 → IsAtEnd (Some (bytes_of self.old.left_pieces))) }
         ensures only_end { IfOk result (λ n. Some (bytes_of self.old.left_pieces) ≡ Some [] → n ≡ 0) }
         ensures pieces { IfOk result (λ n. self.new.taken_pieces ≡ pieces_after n self.old.taken_pieces) }
@@ -74,8 +88,15 @@ impl Source for MemSource {
         // It fails where it is told to, and hands out a piece at a time.
         ensures fails { IsErr result ↔ IsTrue (is_in self.old.next_call self.old.failing_calls) }
         ensures hands_out { IfOk result (λ n. HandsOut n self.old.left_pieces self.new.left_pieces) }
-        ensures ok_all { IfOk result (λ n. self.new ≡ record self.old { left_pieces = self.new.left_pieces; next_call = next_count self.old.next_call; taken_pieces = pieces_after n self.old.taken_pieces }) }
-        ensures err_all { OnErr result (self.new ≡ record self.old { next_call = next_count self.old.next_call; fault_count = next_count self.old.fault_count }) }
+        ensures ok_all { IfOk result (λ n. self.new ≡ record self.old {
+          left_pieces = self.new.left_pieces;
+          next_call = next_count self.old.next_call;
+          taken_pieces = pieces_after n self.old.taken_pieces;
+        }) }
+        ensures err_all { OnErr result (self.new ≡ record self.old {
+          next_call = next_count self.old.next_call;
+          fault_count = next_count self.old.fault_count;
+        }) }
     {
         if self.next_fails() {
             self.faults = risen(self.faults);
@@ -107,7 +128,10 @@ impl Model for SteadySource {
 impl SteadySource {
     /// Hands out the pieces, a longer piece in parts of 4,096 bytes, empty pieces never.
     pub fn new(pieces: Vec<Vec<u8>>) -> SteadySource
-        ensures { result ≡ record { left_pieces = nonempty (map (λ piece. piece.items) pieces.items); taken_pieces = 0 } }
+        ensures { result ≡ record {
+          left_pieces = nonempty (map (λ piece. piece.items) pieces.items);
+          taken_pieces = 0;
+        } }
     {
         SteadySource {
             pieces: Pieces::new(pieces),
@@ -125,7 +149,8 @@ impl Source for SteadySource {
 
     fn read(&mut self, into: &mut Page) -> Result<usize, Failed>
         ensures fits { IfOk result (λ n. n ≤ 4096) }
-        ensures bytes { IfOk result (λ n. Takes (Some (bytes_of self.old.left_pieces)) (Some (bytes_of self.new.left_pieces)) (take n into.new)) }
+        ensures bytes { IfOk result (λ n. Takes (Some (bytes_of self.old.left_pieces))
+            (Some (bytes_of self.new.left_pieces)) (take n into.new)) }
         ensures end { IfOk result (λ n. n ≡ 0 → IsAtEnd (Some (bytes_of self.old.left_pieces))) }
         ensures only_end { IfOk result (λ n. Some (bytes_of self.old.left_pieces) ≡ Some [] → n ≡ 0) }
         ensures pieces { IfOk result (λ n. self.new.taken_pieces ≡ pieces_after n self.old.taken_pieces) }

@@ -1,6 +1,6 @@
 ghost use Rattle.std.specs.Prelude.{◌≡◌, ℕ, ◌-◌, ◌<◌, ◌≤◌, List, [], IfOk, OnOk, OnErr, take, length};
 ghost use Rattle.lt_terms.specs.Causes.{HasCause};
-ghost use Rattle.lt_io.specs.Sink.{Gains, GainsPart};
+ghost use Rattle.lt_io.specs.Streams.{Gains, GainsPart};
 
 use lt_page::Failed;
 

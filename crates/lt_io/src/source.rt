@@ -1,6 +1,6 @@
 ghost use Rattle.std.specs.Prelude.{◌≡◌, ℕ, ◌<◌, ◌≤◌, List, [], Option, Some, IfOk, OnErr, take};
 ghost use Rattle.lt_terms.specs.Causes.{HasCause};
-ghost use Rattle.lt_io.specs.Source.{Takes, IsAtEnd, pieces_after};
+ghost use Rattle.lt_io.specs.Streams.{Takes, IsAtEnd, pieces_after};
 
 use lt_page::{Failed, Page};
 

@@ -6,7 +6,13 @@ use Rattle.lt_item.specs.declared.hash.Parts.{Parts}
 
 -- what a hash says of its key
 abbrev pub parts_in : List ℕ → Parts
-parts_in h = record { hash = h; digits = digits_of h; column = column_of h; suffix = suffix_of h; positions = positions_of h }
+parts_in h = record {
+  hash = h;
+  digits = digits_of h;
+  column = column_of h;
+  suffix = suffix_of h;
+  positions = positions_of h;
+}
 
 -- the parts of a key
 unfoldable pub parts_of : List ℕ → Parts

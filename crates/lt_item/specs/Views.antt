@@ -25,4 +25,5 @@ abbrev pub WritesInParts : Item → List ℕ → ℕ → Type 0
 WritesInParts item old at =
     let key_at = at + 4 in
     let value_at = key_at + length item.key in
-    at ≤ length old → filled (filled (filled old at (header_of item)) key_at item.key) value_at item.value ≡ item_written old at item
+    at ≤ length old
+    → filled (filled (filled old at (header_of item)) key_at item.key) value_at item.value ≡ item_written old at item

@@ -13,6 +13,3 @@ pub use lt_terms::Kind;
 pub use rank::{Rank, rank_less};
 pub use spelling::{item_header, read_item, write_item};
 pub use view::{ItemView, KEY_LIMIT, VALUE_LIMIT, cost};
-
-#[cfg(test)]
-mod tests;

@@ -5,8 +5,6 @@ mod fault;
 mod gate;
 mod laws;
 mod superblock;
-#[cfg(test)]
-mod tests;
 
 pub use fault::OpenFault;
 pub use gate::{gate_open, selected, write_gate};

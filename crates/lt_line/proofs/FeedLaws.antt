@@ -8,7 +8,7 @@ use Rattle.std.proofs.lemmas.List.{take_more, get_or-take, get_or_default, lengt
 use Rattle.std.proofs.lemmas.List.Folds.{list_any_none}
 use Rattle.std.proofs.lemmas.List.Sums.{fails_before_first}
 use Rattle.std.proofs.lemmas.List.Quantifiers.{position-Some}
-use Rattle.lt_language.specs.Lines.{line_feed, has_line_feed}
+use Rattle.lt_language.specs.Commands.{line_feed, has_line_feed}
 use Rattle.lt_terms.proofs.ItemLaws.{guard_none}
 
 -- there is none

@@ -1,7 +1,7 @@
 -- What a buffer of bounded size keeps of a line of any length.
 use Rattle.std.specs.Prelude.{◌≡◌, ℕ, Bool, List, [], ◌∷◌, ◌++◌, take}
 use Rattle.std.specs.Bool.{IsFalse}
-use Rattle.lt_language.specs.Lines.{line_feed, has_line_feed}
+use Rattle.lt_language.specs.Commands.{line_feed, has_line_feed}
 
 -- its first 3,261 bytes: one more than a line that is no refusal may have
 unfoldable pub kept_of : List ℕ → List ℕ

@@ -18,7 +18,11 @@ nothing_waits = record { settled_text = []; pending_text = []; room = reply_room
 
 -- with more text that is not settled
 abbrev pub with_text : Waiting → List ℕ → Waiting
-with_text w text = record { settled_text = w.settled_text; pending_text = w.pending_text ++ text; room = w.room - length text }
+with_text w text = record {
+  settled_text = w.settled_text;
+  pending_text = w.pending_text ++ text;
+  room = w.room - length text;
+}
 
 -- all of it is settled
 abbrev pub all_settled : Waiting → Waiting

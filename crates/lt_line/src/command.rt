@@ -1,6 +1,8 @@
 ghost use Rattle.std.specs.Prelude.{◌≡◌, ◌<◌, ◌≤◌, length, drop, position, IfSome, IsTrue};
 ghost use Rattle.lt_terms.specs.Items.{is_key};
-ghost use Rattle.lt_language.specs.Commands.{command_of, put_command, get_command, delete_command, valued, begins_put, begins_get, begins_delete, is_stat, is_word_key, is_space, has_space};
+ghost use Rattle.lt_language.specs.Commands.{command_of, put_command, get_command, delete_command, valued};
+ghost use Rattle.lt_language.specs.Commands.{begins_put, begins_get, begins_delete, is_stat, is_word_key, is_space};
+ghost use Rattle.lt_language.specs.Commands.{has_space};
 ghost use Rattle.lt_line.specs.View.{view_of};
 
 use lt_language::Bad;

@@ -6,8 +6,6 @@ mod command;
 mod laws;
 mod lines;
 mod replies;
-#[cfg(test)]
-mod tests;
 
 pub use command::{Command, read_command};
 pub use laws::kept_is_enough;

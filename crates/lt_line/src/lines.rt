@@ -1,6 +1,6 @@
-ghost use Rattle.std.specs.Prelude.{◌≡◌, ◌≢◌, ◌<◌, ◌≤◌, ◌↔◌, ◌++◌, [], length, take, true, false, ◌==◌, position, IsTrue, IfOk, IfSome};
-ghost use Rattle.lt_language.specs.Commands.{command_of};
-ghost use Rattle.lt_language.specs.Lines.{line_feed};
+ghost use Rattle.std.specs.Prelude.{◌≡◌, ◌≢◌, ◌<◌, ◌≤◌, ◌↔◌, ◌++◌, [], length, take, true, false, ◌==◌, position};
+ghost use Rattle.std.specs.Prelude.{IsTrue, IfOk, IfSome};
+ghost use Rattle.lt_language.specs.Commands.{command_of, line_feed};
 ghost use Rattle.lt_line.specs.Held.{kept_of, Ends, GoesOn};
 ghost use Rattle.lt_line.specs.View.{view_of};
 

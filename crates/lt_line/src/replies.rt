@@ -1,7 +1,8 @@
 //! The replies that wait to be written.
 
 ghost use Rattle.std.specs.Prelude.{◌≡◌, ◌+◌, ◌≤◌, IfOk, length, drop, vec_len, vec_capacity};
-ghost use Rattle.lt_line.specs.Waiting.{all_settled, nothing_waits, reply_room, settled_alone, with_text, without_front};
+ghost use Rattle.lt_line.specs.Waiting.{all_settled, nothing_waits, reply_room, settled_alone, with_text};
+ghost use Rattle.lt_line.specs.Waiting.{without_front};
 
 use lt_page::NoMemory;
 use std::alloc::Global;

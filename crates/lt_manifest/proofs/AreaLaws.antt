@@ -1,12 +1,10 @@
 -- What an area holds once its blocks are written.
-use Rattle.std.proofs.Common.{◌≡◌, ℕ, ◌+◌, ◌≤◌, ap, subst, ◌∙◌, List, length, false, Option, Some, arith}
+use Rattle.std.proofs.Common.{◌≡◌, ℕ, ◌+◌, ◌≤◌, subst, ◌∙◌, List, length, false, Option, Some, arith}
 use Rattle.lt_terms.specs.Bytes.{Image}
-use Rattle.lt_device.specs.Image.{SameOutside}
-use Rattle.lt_device.specs.State.{State, IsFit, synced}
+use Rattle.lt_device.specs.State.{SameOutside, State, IsFit, synced}
 use Rattle.lt_device.specs.Moments.{MayLeave, ShowsSameOutside}
 use Rattle.lt_device.proofs.Steps.{sync_only, same_some}
-use Rattle.lt_format.specs.Layout.{area_block, edit_gate, edit_slots, gate_page, is_open}
-use Rattle.lt_manifest.specs.Moments.{EditsClosed}
+use Rattle.lt_format.specs.Layout.{area_block, edit_gate, edit_slots, gate_page}
 use Rattle.lt_manifest.specs.Written.{AreWritten, ComesFrom, HasArea, InEdits, page_of, page_count}
 
 -- the snapshot's blocks stay while the edit gates are closed
@@ -18,10 +16,6 @@ area-whole area bytes mid new few pages others gates image told =
       pages = λ k within. was.2.others (area_block area + k) (λ inside. absurd (omega (arith, inside.0))) ∙ pages.each was.0 was.1 k within;
       gates = λ i small. gates.each image told i small;
     }
-
--- gates that were written closed are closed
-pub area-closed : (area : ℕ) (bytes : List ℕ) (image : Image) → HasArea area bytes image → EditsClosed area image
-area-closed area bytes image has = record { gates = λ i within. ap is_open (has.gates i within) }
 
 -- after a sync that answered Ok each image is what was shown
 pub sure-shown : (n : ℕ) (s t : State) (left : Image) → IsFit n s → t ≡ synced s → MayLeave t left → s.shown ≡ Some left

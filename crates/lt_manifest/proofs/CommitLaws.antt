@@ -1,18 +1,15 @@
 -- The images of a commit: the other area, sync, the selector, sync.
 use Rattle.std.proofs.Common.{◌≡◌, ◌⊎◌, inl, inr, ⊎_elim, ℕ, zero, suc, ◌+◌, ◌-◌, ◌<◌, refl, sym, ap, subst, ◌∙◌, List, [], ◌∷◌, length, true, arith}
 use Rattle.lt_terms.specs.Bytes.{Image, block_at, block_of}
-use Rattle.lt_device.specs.Image.{SameOutside}
-use Rattle.lt_device.specs.State.{State, IsFit, written, synced}
+use Rattle.lt_device.specs.State.{SameOutside, State, IsFit, written, synced}
 use Rattle.lt_device.specs.Moments.{MayLeave, Leaves, ConfinedTo}
 use Rattle.lt_device.proofs.Images.{same_outside_joins, same_outside_widens}
 use Rattle.lt_device.proofs.Runs.{begins, joins, weakens, confined_keeps}
 use Rattle.lt_device.proofs.Steps.{written_shown, sync_only}
 use Rattle.lt_format.specs.declared.geometry.Geometry.{Geometry}
 use Rattle.lt_format.specs.Layout.{is_geometry, selected, area_block, edit_gate}
-use Rattle.lt_format.specs.Snapshot.{Manifest, IsManifest}
-use Rattle.lt_format.specs.Naming.{Named, InManifest}
-use Rattle.lt_manifest.specs.Moments.{Names, HasNew, HasOldOrNew}
-use Rattle.lt_manifest.specs.Next.{IsNext}
+use Rattle.lt_format.specs.Snapshot.{Manifest, IsManifest, Named, InManifest, snapshot_bytes}
+use Rattle.lt_manifest.specs.Promise.{Names, HasNew, HasOldOrNew}
 use Rattle.lt_manifest.specs.Written.{HasArea, HasSelected, InArea, page_of, page_count}
 use Rattle.lt_manifest.proofs.NameLaws.{names-other, names-selector, names-new}
 
@@ -24,6 +21,13 @@ selector-sure area n s t u page left below fit is page_is fit_t made may =
 -- it selects its area
 pub selects : (area : ℕ) (page : List ℕ) → area < 2 → page ≡ block_of (area ∷ []) → selected page ≡ area
 selects area page small is = ap selected is ∙ omega arith
+
+-- the old manifest is that of this area, and these bytes spell the new one, which stands on a device of so many blocks
+pub record IsNext (g : Geometry) (area blocks : ℕ) (bytes : List ℕ) (old : Named) (new : Manifest) : Type 0 where
+  pub geometry : old.geometry ≡ g
+  pub area_is : old.area ≡ area
+  pub spelled : bytes ≡ snapshot_bytes new
+  pub stands : IsManifest g blocks new
 
 module _ (g : Geometry) (area blocks : ℕ) (bytes : List ℕ) (old : Named) (new : Manifest) (shown : Image) (next : IsNext g area blocks bytes old new) (valid : is_geometry g ≡ true) (small : area < 2) where
   -- the area that is not current

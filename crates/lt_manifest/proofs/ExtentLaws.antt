@@ -3,7 +3,7 @@ use Rattle.std.proofs.Common.{◌≡◌, ℕ, suc, ◌+◌, ◌-◌, ◌<◌, �
 use Rattle.std.specs.Prelude.{◌==◌, nat_lt}
 use Rattle.std.specs.Int.{w32}
 use Rattle.std.proofs.lemmas.List.Folds.{list_any-append}
-use Rattle.lt_terms.specs.Numbers.{is_in}
+use Rattle.lt_terms.specs.Bytes.{is_in}
 use Rattle.lt_format.specs.Snapshot.{field, extents_at, ◌>>=◌}
 use Rattle.lt_node.specs.Marks.{AreMarks}
 use Rattle.lt_format.proofs.AlikeLaws.{SameNumbers, extents_at-same}

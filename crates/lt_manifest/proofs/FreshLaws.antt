@@ -1,11 +1,11 @@
 -- Extent numbers that were read are new.
-use Rattle.std.proofs.Common.{◌≡◌, ℕ, zero, suc, ◌≤◌, refl, sym, ap, subst, ◌∙◌, Bool, true, false, not, ◌&&◌, ◌||◌, List, [], ◌∷◌, ◌++◌, Ok, IsTrue, arith}
+use Rattle.std.proofs.Common.{◌≡◌, ℕ, zero, suc, ◌≤◌, refl, sym, ap, subst, ◌∙◌, Bool, true, false, not, ◌&&◌, ◌||◌, List, [], ◌∷◌, ◌++◌, length, Ok, IsTrue, arith}
 use Rattle.std.specs.Prelude.{nat_lt, ◌==◌}
 use Rattle.std.specs.Int.{w32}
 use Rattle.std.specs.List.{list_all}
 use Rattle.std.proofs.lemmas.Bool.{and_parts, and_from, not-true, not_from_false, ne_eqb, eqb-false, or_parts}
 use Rattle.std.proofs.lemmas.List.Folds.{list_all-append}
-use Rattle.lt_terms.specs.Numbers.{is_in}
+use Rattle.lt_terms.specs.Bytes.{is_in}
 use Rattle.lt_format.specs.Trie.{Trie, named, all_distinct, all_below}
 use Rattle.lt_format.specs.Changes.{are_new}
 use Rattle.lt_format.specs.Snapshot.{field, extents_at}
@@ -51,6 +51,15 @@ extents_at-new bytes limit extents (suc n) before at xs next h =
       below = and_from (nat_lt first.0.0 extents) (all_below extents others.0.0) passes.0 new.below;
       apart = and_from (not (is_in first.0.0 before)) (none_in before others.0.0) passes.1 apart.0;
     })
+
+-- there are as many as were wanted
+pub extents_at-count : (bytes : ℕ → ℕ) (limit extents n : ℕ) (before : List ℕ) (at : ℕ) (xs : List ℕ) (next : ℕ) → extents_at bytes limit extents n before at ≡ Ok (xs, next) → length xs ≡ n
+unfolding extents_at
+extents_at-count bytes limit extents zero before at xs next h = ap (λ (p : List ℕ × ℕ). length p.0) (sym (ok_same ([], at) (xs, next) h))
+extents_at-count bytes limit extents (suc n) before at xs next h =
+    let first = bind_ok (field bytes limit w32 (λ x. nat_lt x extents && not (is_in x before)) at) _ (xs, next) h in
+    let others = bind_ok (extents_at bytes limit extents n (first.0.0 ∷ before) first.0.1) _ _ first.2 in
+    ap (λ (p : List ℕ × ℕ). length p.0) (sym (ok_same (first.0.0 ∷ others.0.0, others.0.1) (xs, next) others.2)) ∙ ap suc (extents_at-count bytes limit extents n (first.0.0 ∷ before) first.0.1 others.0.0 others.0.1 others.1)
 
 none_in-parts : (xs before ys : List ℕ) → none_in (xs ++ before) ys ≡ true → (none_in xs ys ≡ true) × (none_in before ys ≡ true)
 none_in-parts [] before ys h = (all_none ys, h)

@@ -8,7 +8,7 @@ use Rattle.lt_terms.specs.Bytes.{Image, block_at, all_zero, same_bytes}
 use Rattle.lt_device.specs.State.{State, IsFit}
 use Rattle.lt_format.specs.declared.geometry.Geometry.{Geometry}
 use Rattle.lt_format.specs.Layout.{is_geometry, geometry_of}
-use Rattle.lt_format.specs.Naming.{geometry_in, roomy}
+use Rattle.lt_format.specs.Snapshot.{geometry_in, roomy}
 use Rattle.lt_layout.specs.declared.fault.OpenFault.{OpenFault}
 use Rattle.lt_layout.specs.declared.fault.OpenFault.TheVariants.{Damaged}
 

@@ -8,8 +8,9 @@ pub mod ManifestLaws
 pub mod NameLaws
 pub mod NodeLaws
 pub mod PageLaws
+pub mod PlaceLaws
 pub mod ReadingLaws
 pub mod ShapeLaws
 pub mod SpellingLaws
-pub mod TestLaws
+pub mod TouchLaws
 pub mod WriteLaws

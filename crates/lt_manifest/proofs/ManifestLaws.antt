@@ -1,30 +1,27 @@
 -- What a manifest in memory is after it was read, and after a change.
-use Rattle.std.proofs.Common.{◌≡◌, ℕ, ◌+◌, ◌*◌, ◌/◌, ◌^◌, ◌<◌, ◌≤◌, refl, sym, ap, subst, ◌∙◌, true, ◌&&◌, List, [], ◌∷◌, length, Some, Ok, Err, IsTrue, arith}
+use Rattle.std.proofs.Common.{◌≡◌, ℕ, ◌+◌, ◌-◌, ◌*◌, ◌/◌, ◌^◌, ◌<◌, ◌≤◌, refl, sym, ap, subst, ◌∙◌, true, ◌&&◌, List, [], ◌∷◌, length, Some, Ok, Err, IsTrue, arith}
 use Rattle.std.specs.Prelude.{nat_le, ◌==◌}
 use Rattle.std.proofs.lemmas.Bool.{and_parts, leb-true, eqb-true}
 use Rattle.lt_terms.specs.Bytes.{Image, block_at, block_of}
-use Rattle.lt_device.specs.State.{State, Wrote, written}
+use Rattle.lt_device.specs.State.{IsFit, SameOutside, State, Wrote, written}
 use Rattle.lt_device.proofs.Images.{block_at-set_other}
-use Rattle.lt_device.proofs.Steps.{written_is, written_shown}
+use Rattle.lt_device.proofs.Steps.{left_whole, written_is, written_shown}
 use Rattle.lt_device.proofs.Fits.{wrote_fit}
 use Rattle.lt_format.specs.declared.geometry.Geometry.{Geometry}
 use Rattle.lt_format.specs.declared.header.Header.{Header}
 use Rattle.lt_format.specs.Layout.{is_geometry, blocks_needed, selected, selector_block}
 use Rattle.lt_format.specs.Trie.{IsTrie, all_below, named}
 use Rattle.lt_format.specs.Changes.{Change, flush, deal, rewrite, new_extents, fits, after_change}
-use Rattle.lt_format.specs.Snapshot.{Manifest, IsManifest, nodes_bytes, snapshot_in, snapshot_bytes, extents_stand}
-use Rattle.lt_format.specs.Naming.{Named, manifest_in, may_commit, after_commit, log_moves}
+use Rattle.lt_format.specs.Snapshot.{Manifest, IsManifest, nodes_bytes, snapshot_in, snapshot_bytes, extents_stand, Named, manifest_in, may_commit, after_commit, log_moves}
 use Rattle.lt_format.proofs.Numbers.{length-distinct}
 use Rattle.lt_format.proofs.NodeReadLaws.{nodes_short}
 use Rattle.lt_format.proofs.KeepLaws.{after_change-trie}
 use Rattle.lt_format.proofs.SnapshotReadLaws.{pages-fit, pages-read}
 use Rattle.lt_node.specs.View.{TrieView}
-use Rattle.lt_device.specs.Moments.{MayLeave, Leaves}
-use Rattle.lt_manifest.specs.Moments.{Names, HasNew, HasOldOrNew}
-use Rattle.lt_manifest.specs.Opened.{IsKept, IsHeld, named_by, fresh}
-use Rattle.lt_manifest.specs.Next.{IsNext}
-use Rattle.lt_manifest.specs.Written.{HasArea, HasSelected, page_of, page_count}
-use Rattle.lt_manifest.proofs.CommitLaws.{area-stays}
+use Rattle.lt_device.specs.Moments.{ConfinedTo, MayLeave, Leaves}
+use Rattle.lt_manifest.specs.Promise.{Names, HasNew, HasOldOrNew, IsKept, IsHeld, named_by, fresh}
+use Rattle.lt_manifest.specs.Written.{HasArea, HasSelected, InArea, page_of, page_count}
+use Rattle.lt_manifest.proofs.CommitLaws.{IsNext, area-stays, area-selected, committed, other_written, selector_written, selects, still_old}
 use Rattle.lt_manifest.proofs.ReadingLaws.{few_extents}
 
 -- ---- reading
@@ -184,3 +181,48 @@ module _ (g : Geometry) (area blocks : ℕ) (before : Header) (old : TrieView) (
 
   pub ready-next : (bytes : List ℕ) → bytes ≡ snapshot_bytes (record { header = header; trie = trie.nodes }) → IsNext g area blocks bytes (named_by g area before old.nodes) (record { header = header; trie = trie.nodes })
   ready-next bytes spelled = record { geometry = refl; area_is = refl; spelled = spelled; stands = ready-stands }
+
+-- the other area is written and then selected, where these bytes spell the new manifest
+module _ (g : Geometry) (area blocks : ℕ) (before : Header) (old : TrieView) (change : Change) (header : Header) (trie : TrieView) (ready : IsReady g area blocks before old change header trie)
+    (bytes : List ℕ) (spelled : bytes ≡ snapshot_bytes (record { header = header; trie = trie.nodes })) (asked : Header) (header_is : header ≡ asked) (named : Named) (view : named_by g area before old.nodes ≡ named) where
+  abbrev was : Named
+  was = named_by g area before old.nodes
+
+  abbrev now : Manifest
+  now = record { header = header; trie = trie.nodes }
+
+  same : now ≡ after_commit was.manifest change asked
+  same = ready-same g area blocks before old change header trie ready ∙ ap (after_commit (record { header = before; trie = old.nodes }) change) header_is
+
+  next : IsNext g area blocks bytes was now
+  next = ready-next g area blocks before old change header trie ready bytes spelled
+
+  valid : is_geometry g ≡ true
+  valid = ready.held.kept.geometry
+
+  small : area < 2
+  small = ready.held.kept.area
+
+  pub moment-written : {s t : State} → ConfinedTo (InArea (1 - area)) s t → AnyMoment change asked s t named
+  moment-written {s} {t} confined = subst (AnyMoment change asked s t) view (λ shown told rests.
+      subst (λ (n : Manifest). Leaves (HasOldOrNew was n shown) s t) same
+      (still_old g area blocks bytes was now shown next valid small (other_written g area blocks bytes was now shown next valid small confined rests)))
+
+  pub moment-selected : {s t u : State} (n : ℕ) → ConfinedTo (InArea (1 - area)) s t → IsFit n t → n ≡ blocks → ((left : Image) → MayLeave t left → HasArea (1 - area) bytes left)
+      → ((shown : Image) → s.shown ≡ Some shown → (left : Image) → MayLeave t left → SameOutside (InArea (1 - area)) shown left) → ConfinedTo (λ k. k ≡ 1) t u → AnyMoment change asked s u named
+  moment-selected {s} {t} {u} n confined fit size has beside selected_only = subst (AnyMoment change asked s u) view (λ shown told rests.
+      subst (λ (m : Manifest). Leaves (HasOldOrNew was m shown) s u) same
+      (selector_written g area blocks bytes was now shown next valid small (other_written g area blocks bytes was now shown next valid small confined rests)
+      (λ left may. (left_whole n t fit left may).size ∙ size) has (beside shown told) selected_only))
+
+  pub selected-committed : {s t u : State} (n : ℕ) → ConfinedTo (InArea (1 - area)) s t → IsFit n t → n ≡ blocks → ((left : Image) → MayLeave t left → HasArea (1 - area) bytes left)
+      → ((shown : Image) → s.shown ≡ Some shown → (left : Image) → MayLeave t left → SameOutside (InArea (1 - area)) shown left) → ConfinedTo (λ k. k ≡ 1) t u
+      → ((left : Image) → MayLeave u left → block_at left 1 ≡ block_of ((1 - area) ∷ [])) → Committed s u (named_by g (1 - area) header trie.nodes) named
+  selected-committed {s} {t} {u} n confined fit size has beside selected_only page = subst (Committed s u (named_by g (1 - area) header trie.nodes)) view (λ shown told rests.
+      committed g area blocks bytes was now shown next valid small (other_written g area blocks bytes was now shown next valid small confined rests)
+      (λ left may. (left_whole n t fit left may).size ∙ size) has (beside shown told) selected_only (λ left may. selects (1 - area) (block_at left 1) (omega arith) (page left may)))
+
+  pub selected-written : {t u : State} → ((left : Image) → MayLeave t left → HasArea (1 - area) bytes left) → ConfinedTo (λ k. k ≡ 1) t u
+      → ((left : Image) → MayLeave u left → block_at left 1 ≡ block_of ((1 - area) ∷ [])) → (left : Image) → MayLeave u left → HasSelected (1 - area) (snapshot_bytes (record { header = header; trie = trie.nodes })) left
+  selected-written has selected_only page left may =
+      subst (λ (b : List ℕ). HasSelected (1 - area) b left) spelled (area-selected (1 - area) bytes has selected_only page left may)

@@ -1,13 +1,12 @@
 -- What a change of blocks makes of the manifest that an image names.
 use Rattle.std.proofs.Common.{◌≡◌, ℕ, ◌+◌, ◌<◌, refl, sym, ap, ◌∙◌, true, length, Ok, arith}
 use Rattle.lt_terms.specs.Bytes.{Image, block_at}
-use Rattle.lt_device.specs.Image.{SameOutside}
+use Rattle.lt_device.specs.State.{SameOutside}
 use Rattle.lt_format.specs.declared.geometry.Geometry.{Geometry}
 use Rattle.lt_format.specs.Layout.{is_geometry, area_block, selected, selector_block, geometry_of}
-use Rattle.lt_format.specs.Snapshot.{Manifest, snapshot_in, IsManifest, pages_of, snapshot_page}
-use Rattle.lt_format.specs.Naming.{Named, geometry_in, manifest_in, manifest_of, roomy}
+use Rattle.lt_format.specs.Snapshot.{Manifest, snapshot_in, IsManifest, pages_of, snapshot_page, Named, geometry_in, manifest_in, manifest_of, roomy}
 use Rattle.lt_format.proofs.SnapshotReadLaws.{pages-read}
-use Rattle.lt_manifest.specs.Moments.{Names}
+use Rattle.lt_manifest.specs.Promise.{Names}
 use Rattle.lt_manifest.specs.Written.{InArea}
 use Rattle.lt_format.proofs.ReadLaws.{bind_ok, ok_same}
 use Rattle.lt_format.proofs.LocalLaws.{snapshot-local}

@@ -1,26 +1,26 @@
 -- Nodes that are read one after another.
-use Rattle.std.proofs.Common.{◌≡◌, ℕ, suc, ◌+◌, ◌-◌, ◌<◌, ◌≤◌, refl, sym, ap, subst, ◌∙◌, Bool, true, false, not, cond, ◌&&◌, List, [], ◌∷◌, ◌++◌, length, Option, Some, None, Result, Ok, Err, IsTrue, arith, append-nil, append_assoc}
-use Rattle.std.specs.Prelude.{◌==◌, if◌then◌else◌}
+use Rattle.std.proofs.Common.{◌≡◌, ℕ, suc, ◌+◌, ◌-◌, ◌<◌, ◌≤◌, refl, sym, ap, subst, ◌∙◌, Bool, true, false, cond, ◌&&◌, List, [], ◌∷◌, ◌++◌, length, Option, Some, None, Result, Ok, Err, arith, append-nil, append_assoc}
+use Rattle.std.specs.Prelude.{◌^◌, ◌==◌, if◌then◌else◌, nat_le, nat_lt}
+use Rattle.std.specs.Int.{w8, w16, w32}
 use Rattle.std.specs.declared.cmp.Ordering.TheVariants.{Less, Greater}
 use Rattle.std.specs.Ordering.{is_lt, ordering_reverse}
 use Rattle.std.specs.FinMap.{put}
 use Rattle.std.specs.List.{list_all}
-use Rattle.std.proofs.lemmas.Bool.{and_parts, and_from, ne_eqb}
+use Rattle.std.proofs.lemmas.Bool.{and_parts, and_from, eqb-true, leb-true, ne_eqb}
 use Rattle.std.proofs.lemmas.Grind.{flat_map-append}
 use Rattle.std.proofs.lemmas.List.Folds.{list_any-append, list_all-append}
-use Rattle.lt_terms.specs.Numbers.{is_in}
+use Rattle.lt_terms.specs.Bytes.{is_in}
 use Rattle.lt_format.specs.declared.node_id.NodeId.{NodeId}
-use Rattle.lt_format.specs.Trie.{Node, Trie, node_cmp, with_node, named, node_extents, is_node, is_shaped, is_last_level, groups_for, all_distinct, all_below, IsTrie}
-use Rattle.lt_format.specs.Changes.{are_new}
-use Rattle.lt_format.specs.Snapshot.{node_read, nodes_read, follows, ◌>>=◌}
-use Rattle.lt_format.proofs.Numbers.{times-below, below-times}
+use Rattle.lt_format.specs.Trie.{Node, Trie, node_cmp, with_node, named, node_extents, is_node, is_shaped, is_last_level, groups_for, IsTrie}
+use Rattle.lt_format.specs.Snapshot.{field, extents_at, node_read, nodes_read, follows, ◌>>=◌}
+use Rattle.lt_format.proofs.ReadLaws.{bind_ok, field_ok, ok_same}
 use Rattle.lt_format.proofs.TrieLaws.{node_total, is_less}
 use Rattle.lt_format.proofs.KeepLaws.{set-trie}
-use Rattle.lt_format.proofs.ShapeLaws.{inner-shaped, last-shaped}
+use Rattle.lt_format.proofs.ShapeLaws.{inner-shaped, last-shaped, shaped-inner, shaped-last}
+use Rattle.lt_manifest.proofs.FreshLaws.{AreNew, are_new-from, extents_at-count, extents_at-new, new-joined}
 use Rattle.lt_node.specs.Marks.{AreMarks}
-use Rattle.lt_format.proofs.AlikeLaws.{nodes_read-same}
+use Rattle.lt_format.proofs.AlikeLaws.{nodes_read-same, SameNumbers}
 use Rattle.std.proofs.Math.Bool.{or_comm}
-use Rattle.lt_format.proofs.AlikeLaws.{SameNumbers}
 
 -- ---- shapes
 
@@ -32,6 +32,57 @@ shaped-from levels extents id n tables groups count_tables count_groups base wan
     by_level : (b : Bool) → is_last_level levels id ≡ b → n.base ≤ cond b extents 0 → groups ≡ cond b (groups_for tables) 0 → is_shaped levels extents id n ≡ true
     by_level true last base wanted = last-shaped levels extents id n last base (count_groups ∙ wanted ∙ ap groups_for (sym count_tables))
     by_level false inner base wanted = inner-shaped levels extents id n inner (omega arith) (count_groups ∙ wanted)
+
+-- a store of more extents has room for the base
+pub shaped-wider : (levels extents limit : ℕ) (id : NodeId) (n : Node) → extents ≤ limit → is_shaped levels extents id n ≡ true → is_shaped levels limit id n ≡ true
+shaped-wider levels extents limit id n wider h = by_level (is_last_level levels id) refl
+  where
+    by_level : (b : Bool) → is_last_level levels id ≡ b → is_shaped levels limit id n ≡ true
+    by_level true last =
+        let parts = shaped-last levels extents id n last h in
+        last-shaped levels limit id n last (omega (arith, parts.0, wider)) parts.1
+    by_level false inner =
+        let parts = shaped-inner levels extents id n inner h in
+        inner-shaped levels limit id n inner parts.0 parts.1
+
+-- what a node that was read is, beside the extents that were named before it
+pub record IsNextNode (levels extents : ℕ) (last_id : Option NodeId) (before : List ℕ) (e : NodeId × Node) : Type 0 where
+  pub comes : follows last_id e.0 ≡ true
+  pub there : is_node levels e.0 ≡ true
+  pub some : 1 ≤ length e.1.tables
+  pub shaped : is_shaped levels extents e.0 e.1 ≡ true
+  pub fresh : AreNew extents before (node_extents e.1)
+
+pub node_read-next : (bytes : ℕ → ℕ) (limit levels extents : ℕ) (last_id : Option NodeId) (before : List ℕ) (at : ℕ) (r : (NodeId × Node) × ℕ) → node_read bytes limit levels extents last_id before at ≡ Ok r → IsNextNode levels extents last_id before r.0
+unfolding node_read
+node_read-next bytes limit levels extents last_id before at r h =
+    let level = bind_ok (field bytes limit w8 (λ l. nat_lt l levels) at) _ r h in
+    let l : ℕ = level.0.0 in
+    let number = bind_ok (field bytes limit w16 (λ n. nat_lt n (8 ^ l) && follows last_id (record { level = l; number = n })) level.0.1) _ r level.2 in
+    let id : NodeId = record { level = l; number = number.0.0 } in
+    let base = bind_ok (field bytes limit w32 (λ m. nat_le m (cond (l + 1 == levels) extents 0)) number.0.1) _ r number.2 in
+    let tables_len = bind_ok (field bytes limit w32 (λ t. nat_le 1 t && nat_le t extents) base.0.1) _ r base.2 in
+    let groups_len = bind_ok (field bytes limit w32 (λ g. g == cond (l + 1 == levels) (groups_for tables_len.0.0) 0) tables_len.0.1) _ r tables_len.2 in
+    let tables = bind_ok (extents_at bytes limit extents tables_len.0.0 before groups_len.0.1) _ r groups_len.2 in
+    let groups = bind_ok (extents_at bytes limit extents groups_len.0.0 (tables.0.0 ++ before) tables.0.1) _ r tables.2 in
+    let in_level = field_ok bytes limit w8 (λ l. nat_lt l levels) at level.0 level.1 in
+    let next = and_parts _ (follows last_id id) (field_ok bytes limit w16 (λ n. nat_lt n (8 ^ l) && follows last_id (record { level = l; number = n })) level.0.1 number.0 number.1) in
+    let base_fits = field_ok bytes limit w32 (λ m. nat_le m (cond (l + 1 == levels) extents 0)) number.0.1 base.0 base.1 in
+    let some = and_parts (nat_le 1 tables_len.0.0) (nat_le tables_len.0.0 extents) (field_ok bytes limit w32 (λ t. nat_le 1 t && nat_le t extents) base.0.1 tables_len.0 tables_len.1) in
+    let as_many = field_ok bytes limit w32 (λ g. g == cond (l + 1 == levels) (groups_for tables_len.0.0) 0) tables_len.0.1 groups_len.0 groups_len.1 in
+    let count_tables = extents_at-count bytes limit extents tables_len.0.0 before groups_len.0.1 tables.0.0 tables.0.1 tables.1 in
+    let count_groups = extents_at-count bytes limit extents groups_len.0.0 (tables.0.0 ++ before) tables.0.1 groups.0.0 groups.0.1 groups.1 in
+    let new_tables = extents_at-new bytes limit extents tables_len.0.0 before groups_len.0.1 tables.0.0 tables.0.1 tables.1 in
+    let new_groups = extents_at-new bytes limit extents groups_len.0.0 (tables.0.0 ++ before) tables.0.1 groups.0.0 groups.0.1 groups.1 in
+    let node : Node = record { base = base.0.0; tables = tables.0.0; groups = groups.0.0 } in
+    let is : ((id, node), groups.0.1) ≡ r = ok_same ((id, node), groups.0.1) r groups.2 in
+    subst (λ (q : (NodeId × Node) × ℕ). IsNextNode levels extents last_id before q.0) is (record {
+      comes = next.1;
+      there = and_from (nat_lt l levels) (nat_lt number.0.0 (8 ^ l)) in_level next.0;
+      some = subst (λ n. 1 ≤ n) (sym count_tables) (leb-true 1 tables_len.0.0 some.0);
+      shaped = shaped-from levels extents id node tables_len.0.0 groups_len.0.0 count_tables count_groups (leb-true base.0.0 _ base_fits) (eqb-true groups_len.0.0 _ as_many);
+      fresh = new-joined extents before tables.0.0 groups.0.0 new_tables new_groups;
+    })
 
 -- ---- the node behind all others
 
@@ -78,12 +129,6 @@ named-push trie id n = flat_map-append (λ (e : NodeId × Node). node_extents e.
 pub same-turned : (xs ys : List ℕ) → SameNumbers (xs ++ ys) (ys ++ xs)
 same-turned xs ys z = list_any-append (λ q. q == z) xs ys ∙ or_comm (is_in z xs) (is_in z ys) ∙ sym (list_any-append (λ q. q == z) ys xs)
 
-pub are_new-wider : (trie : Trie) (xs : List ℕ) (extents : ℕ) → extents ≤ 65536 → IsTrue (are_new extents trie xs) → IsTrue (are_new 65536 trie xs)
-are_new-wider trie xs extents few new =
-    let outer = and_parts (all_distinct xs && all_below extents xs) (list_all (λ x. not (is_in x (named trie))) xs) new in
-    let inner = and_parts (all_distinct xs) (all_below extents xs) outer.0 in
-    and_from _ (list_all (λ x. not (is_in x (named trie))) xs) (and_from (all_distinct xs) (all_below 65536 xs) inner.0 (below-times 65536 xs (λ x past. times-below extents xs inner.1 x (omega arith)))) outer.1
-
 module _ (bytes : ℕ → ℕ) (limit levels extents count : ℕ) where
   -- what was read after so many nodes
   pub record IsTrieRead (marks : List Bool) (done : ℕ) (trie : Trie) (last : Option NodeId) (place : ℕ) : Type 0 where
@@ -101,14 +146,15 @@ module _ (bytes : ℕ → ℕ) (limit levels extents count : ℕ) where
       ∙ ap (put_nodes (trie ++ (id, node) ∷ [])) (nodes_read-same bytes bytes limit (λ i within. refl) levels extents n (Some id) (node_extents node ++ named trie) (named (trie ++ (id, node) ∷ [])) next same))
 
   pub nodes-more : (mid new : List Bool) (done place next : ℕ) (trie : Trie) (last_id : Option NodeId) (id : NodeId) (node : Node) → done < count → IsTrieRead mid done trie last_id place
-      → node_read bytes limit levels extents last_id (named trie) place ≡ Ok ((id, node), next) → AreMarks new (node_extents node ++ named trie) → follows last_id id ≡ true → is_node levels id ≡ true → 1 ≤ length node.tables → is_shaped levels extents id node ≡ true
-      → are_new extents trie (node_extents node) ≡ true → IsTrieRead new (done + 1) (with_node trie id node) (Some id) next
-  nodes-more mid new done place next trie last_id id node some so_far read marks comes there tables shaped fresh =
+      → node_read bytes limit levels extents last_id (named trie) place ≡ Ok ((id, node), next) → AreMarks new (node_extents node ++ named trie)
+      → IsTrieRead new (done + 1) (with_node trie id node) (Some id) next
+  nodes-more mid new done place next trie last_id id node some so_far read marks =
+      let is = node_read-next bytes limit levels extents last_id (named trie) place ((id, node), next) read in
       let one : count - done ≡ suc (count - (done + 1)) = omega arith in
-      let behind : all_before id trie ≡ true = so_far.last_is id comes in
+      let behind : all_before id trie ≡ true = so_far.last_is id is.comes in
       let same : SameNumbers (node_extents node ++ named trie) (named (trie ++ (id, node) ∷ [])) = subst (SameNumbers (node_extents node ++ named trie)) (sym (named-push trie id node)) (same-turned (node_extents node) (named trie)) in
-      let set = set-trie levels extents trie id node so_far.trie_is there shaped fresh in
-      let last : with_node trie id node ≡ trie ++ (id, node) ∷ [] = with_node-last id node trie tables behind in
+      let set = set-trie levels extents trie id node so_far.trie_is is.there is.shaped (are_new-from extents extents trie (node_extents node) (omega arith) is.fresh) in
+      let last : with_node trie id node ≡ trie ++ (id, node) ∷ [] = with_node-last id node trie is.some behind in
       subst (λ (t : Trie). IsTrieRead new (done + 1) t (Some id) next) (sym last) (record {
         marks_are = λ z within. marks z within ∙ same z;
         goes_on = so_far.goes_on ∙ ap (λ k. put_nodes trie (nodes_read bytes limit levels extents k last_id (named trie) place)) one ∙ nodes-step (count - (done + 1)) place next trie last_id id node read;

@@ -2,11 +2,10 @@
 use Rattle.std.proofs.Common.{◌≡◌, ◌≢◌, ◌⊎◌, ⊎_elim, ℕ, ◌+◌, ◌<◌, ◌≤◌, sym, ap, subst, ◌∙◌, List, Option, arith}
 use Rattle.std.proofs.lemmas.Bool.{cases_lt}
 use Rattle.lt_terms.specs.Bytes.{Image, block_at}
-use Rattle.lt_device.specs.Image.{SameOutside}
-use Rattle.lt_device.specs.State.{State, IsFit, Wrote, written}
+use Rattle.lt_device.specs.State.{SameOutside, State, IsFit, Wrote, written}
 use Rattle.lt_device.proofs.Images.{block_at-set_other, same_outside_joins, same_outside_widens}
 use Rattle.lt_device.proofs.Steps.{written_is, written_shown, wrote_others, same_some}
-use Rattle.lt_format.specs.Naming.{InManifest}
+use Rattle.lt_format.specs.Snapshot.{InManifest}
 use Rattle.lt_manifest.specs.Written.{AreWritten, ComesFrom, InArea, InSelected}
 
 -- one block more

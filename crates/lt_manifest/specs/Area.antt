@@ -4,6 +4,8 @@ use Rattle.std.specs.Prelude.{nat_le, ◌==◌, if◌then◌else◌, slice_index
 use Rattle.std.specs.Int.{Width, byte_len}
 use Rattle.lt_terms.specs.Bytes.{Image, block_at}
 use Rattle.lt_format.specs.declared.geometry.Geometry.{Geometry}
+use Rattle.lt_manifest.specs.declared.fault.ReadFault.{ReadFault}
+use Rattle.lt_manifest.specs.declared.fault.ReadFault.TheVariants as faults
 use Rattle.lt_manifest.specs.declared.snapshot.header.Front.{Front as FrontRead}
 use Rattle.lt_format.specs.Snapshot.{Manifest, Front, field, nodes_read, number_in, total_offset, ◌>>=◌}
 
@@ -30,3 +32,9 @@ number_at bytes w at = if nat_le (at + byte_len w) (length bytes) then Some
 -- the field of a width from a place on, which these bytes have where its number passes the test
 abbrev pub field_at : List ℕ → Width → (ℕ → Bool) → ℕ → Result (ℕ × ℕ) ℕ
 field_at bytes w stands at = field (slice_index bytes) (length bytes) w stands at
+
+-- what was read, seen so, is this answer; where there was no memory nothing is said of it
+abbrev pub IsReadAs : {T A : Type 0} → Result T ReadFault → (T → A) → Result A ℕ → Type 0
+IsReadAs (Ok x) seen answer = answer ≡ Ok (seen x)
+IsReadAs (Err (faults.Field at)) seen answer = answer ≡ Err at
+IsReadAs (Err faults.NoMemory) seen answer = Unit {0}

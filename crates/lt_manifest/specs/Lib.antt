@@ -1,6 +1,5 @@
-pub mod Moments
 pub mod Area
-pub mod Next
-pub mod Opened
+pub mod Promise
 pub mod Shape
+pub mod Spelling
 pub mod Written

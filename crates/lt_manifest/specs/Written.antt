@@ -2,7 +2,9 @@
 use Rattle.std.specs.Prelude.{◌≡◌, ◌⊎◌, ℕ, ◌+◌, ◌-◌, ◌*◌, ◌/◌, ◌<◌, ◌≤◌, false, List, [], ◌∷◌, Option, Some, length}
 use Rattle.std.specs.Prelude.{slice_range}
 use Rattle.lt_terms.specs.Bytes.{Image, block_at, block_len, block_of}
-use Rattle.lt_device.specs.Image.{SameOutside}
+use Rattle.lt_device.specs.declared.device.Device.{Ghosts}
+use Rattle.lt_device.specs.Moments.{ConfinedTo, ShowsSameOutside}
+use Rattle.lt_device.specs.State.{SameOutside}
 use Rattle.lt_format.specs.Layout.{area_block, edit_gate, edit_slots, gate_page, selector_block}
 
 -- block k of these bytes: those that lie there, and zeros
@@ -44,3 +46,9 @@ InEdits area n = (edit_gate area 0 ≤ n) × (n < edit_gate area edit_slots)
 pub record ComesFrom (inside : ℕ → Type 0) (old new : Option Image) : Type 0 where
   pub each : (image : Image) → new ≡ Some image
       → (before : Image) × (old ≡ Some before) × SameOutside inside before image
+
+-- the calls touch none but these blocks: each image since agrees outside them with one that a crash could have left
+-- before, and there the device reads as before
+pub record TouchesOnly {D : Type 0} (g : Ghosts D) (inside : ℕ → Type 0) (old new : D) : Type 0 where
+  pub confined : ConfinedTo inside (g.state old) (g.state new)
+  pub others : ShowsSameOutside inside (g.state old).shown (g.state new).shown

@@ -1,72 +1,27 @@
 //! Writing a manifest area and making it the current one.
 
-ghost use Rattle.std.specs.Prelude.{◌≡◌, ℕ, ◌+◌, ◌-◌, ◌*◌, ◌<◌, ◌≤◌, Some, false, [], ◌∷◌, IsErr, IsTrue, OnOk, length};
+ghost use Rattle.std.specs.Prelude.{◌≡◌, ℕ, ◌+◌, ◌-◌, ◌*◌, ◌<◌, ◌≤◌, Some, false, [], ◌∷◌, IsErr, OnOk, length};
 ghost use Rattle.std.specs.Option.{ForSome};
 ghost use Rattle.lt_terms.specs.Bytes.{Image, block_at, block_of};
 ghost use Rattle.lt_device.specs.Calls.{OnlyWrites};
-ghost use Rattle.lt_device.specs.Image.{SameOutside};
-ghost use Rattle.lt_device.specs.State.{IsFit};
-ghost use Rattle.lt_device.specs.Moments.{MayLeave, Leaves, ConfinedTo, UnsyncedIn, ShowsSameOutside, MayOnlyLeave};
-ghost use Rattle.lt_format.specs.Layout.{area_block, edit_gate, edit_slots, gate_page, is_geometry};
-ghost use Rattle.lt_format.specs.Snapshot.{Manifest};
-ghost use Rattle.lt_format.specs.Naming.{Named};
-ghost use Rattle.lt_manifest.specs.Moments.{Names, HasNew, HasOldOrNew};
-ghost use Rattle.lt_manifest.specs.Next.{IsNext};
-ghost use Rattle.lt_manifest.specs.Written.{AreWritten, ComesFrom, HasArea, HasSelected, InArea, InEdits};
-ghost use Rattle.lt_manifest.specs.Written.{InSelected, page_of, page_count};
+ghost use Rattle.lt_device.specs.State.{SameOutside, IsFit};
+ghost use Rattle.lt_device.specs.Moments.{UnsyncedIn, MayOnlyLeave};
+ghost use Rattle.lt_format.specs.Layout.{area_block, edit_gate, edit_slots, gate_page};
+ghost use Rattle.lt_manifest.specs.Written.{AreWritten, ComesFrom, HasArea, InArea, InEdits, TouchesOnly, page_of};
+ghost use Rattle.lt_manifest.specs.Written.{page_count};
 
 use lt_device::Device;
 use lt_format::Geometry;
 use lt_layout::write_gate;
 use lt_page::{Failed, Page};
 
-/// Writes these bytes to the area that is not current, and makes that area the current one. The page
-/// holds any bytes afterwards.
-pub fn replace<D: Device>(
-    device: &mut D,
-    geometry: &Geometry,
-    area: u8,
-    bytes: &[u8],
-    page: &mut Page,
-) -> Result<(), Failed>
-    requires valid { IsTrue (is_geometry geometry.now) }
-    requires area { area < 2 }
-    requires within { 868 ≤ D.blocks device.old }
-    requires room { length bytes.now ≤ 305 * 4096 }
-    ensures any_moment { (old : Named) (new : Manifest) (shown : Image)
-        → IsNext geometry.now area (D.blocks device.old) bytes.now old new
-        → (D.state device.old).shown ≡ Some shown
-        → MayOnlyLeave (Names old) (D.state device.old)
-        → Leaves (HasOldOrNew old new shown) (D.state device.old) (D.state device.new) }
-    ensures committed { OnOk result ((old : Named) (new : Manifest) (shown : Image)
-        → IsNext geometry.now area (D.blocks device.old) bytes.now old new
-        → (D.state device.old).shown ≡ Some shown
-        → MayOnlyLeave (Names old) (D.state device.old)
-        → (left : Image) → MayLeave (D.state device.new) left
-        → HasNew (record { geometry = geometry.now; area = 1 - area; manifest = new }) shown left) }
-    ensures written { OnOk result (MayOnlyLeave (HasSelected (1 - area) bytes.now)
-        (D.state device.new)) }
-    ensures confined { ConfinedTo (InSelected (1 - area)) (D.state device.old)
-        (D.state device.new) }
-    ensures others { ShowsSameOutside (InSelected (1 - area)) (D.state device.old).shown
-        (D.state device.new).shown }
-    ensures sure { OnOk result (UnsyncedIn (λ _. ⊥) (D.state device.new)) }
-    ensures calls { OnlyWrites D.Device (IsErr result) device.old device.new }
-{
-    let other = 1 - area;
-    write_area(device, geometry, other, bytes, page)?;
-    select_area(device, other, page)
-}
-
 /// Selects an area and makes sure of that.
-fn select_area<D: Device>(device: &mut D, area: u8, page: &mut Page) -> Result<(), Failed>
+pub fn select_area<D: Device>(device: &mut D, area: u8, page: &mut Page) -> Result<(), Failed>
     requires area { area < 2 }
     requires within { 868 ≤ D.blocks device.old }
-    ensures written { OnOk result ((left : Image) → MayLeave (D.state device.new) left
-        → block_at left 1 ≡ block_of (area ∷ [])) }
-    ensures confined { ConfinedTo (λ k. k ≡ 1) (D.state device.old) (D.state device.new) }
-    ensures others { ShowsSameOutside
-        (λ k. k ≡ 1) (D.state device.old).shown (D.state device.new).shown }
+    ensures written { OnOk result (MayOnlyLeave (λ left. block_at left 1 ≡ block_of (area ∷ []))
+        (D.state device.new)) }
+    ensures touches { TouchesOnly D.Device (λ k. k ≡ 1) device.old device.new }
     ensures sure { OnOk result (UnsyncedIn (λ _. ⊥) (D.state device.new)) }
     ensures calls { OnlyWrites D.Device (IsErr result) device.old device.new }
 {
@@ -93,9 +48,7 @@ pub fn write_area<D: Device>(
     ensures others_sure { OnOk result ((shown : Image) → (D.state device.old).shown ≡ Some shown
         → MayOnlyLeave (SameOutside (InArea area) shown) (D.state device.new)) }
     ensures fit { OnOk result (IsFit (D.blocks device.new) (D.state device.new)) }
-    ensures confined { ConfinedTo (InArea area) (D.state device.old) (D.state device.new) }
-    ensures others { ShowsSameOutside (InArea area) (D.state device.old).shown
-        (D.state device.new).shown }
+    ensures touches { TouchesOnly D.Device (InArea area) device.old device.new }
     ensures calls { OnlyWrites D.Device (IsErr result) device.old device.new }
 {
     fill_area(device, geometry, area, bytes, page)?;
@@ -114,9 +67,7 @@ pub fn fill_area<D: Device>(
     requires within { 868 ≤ D.blocks device.old }
     requires room { length bytes.now ≤ 305 * 4096 }
     ensures written { OnOk result (ForSome (D.state device.new).shown (HasArea area bytes.now)) }
-    ensures confined { ConfinedTo (InArea area) (D.state device.old) (D.state device.new) }
-    ensures others { ShowsSameOutside (InArea area) (D.state device.old).shown
-        (D.state device.new).shown }
+    ensures touches { TouchesOnly D.Device (InArea area) device.old device.new }
     ensures no_sync { (D.state device.new).past ≡ (D.state device.old).past }
     ensures calls { OnlyWrites D.Device (IsErr result) device.old device.new }
 {
@@ -136,12 +87,9 @@ fn write_pages<D: Device>(
     requires area { area < 2 }
     requires within { 868 ≤ D.blocks device.old }
     requires room { length bytes.now ≤ 305 * 4096 }
-    ensures written { OnOk result (AreWritten
-        (λ k. area_block area + k) (page_of bytes.now) (page_count bytes.now)
-        (D.state device.new).shown) }
-    ensures confined { ConfinedTo (InArea area) (D.state device.old) (D.state device.new) }
-    ensures others { ShowsSameOutside (InArea area) (D.state device.old).shown
-        (D.state device.new).shown }
+    ensures written { OnOk result (AreWritten (λ k. area_block area + k) (page_of bytes.now)
+        (page_count bytes.now) (D.state device.new).shown) }
+    ensures touches { TouchesOnly D.Device (InArea area) device.old device.new }
     ensures no_sync { (D.state device.new).past ≡ (D.state device.old).past }
     ensures calls { OnlyWrites D.Device (IsErr result) device.old device.new }
 {
@@ -174,11 +122,9 @@ fn close_edits<D: Device>(
 ) -> Result<(), Failed>
     requires area { area < 2 }
     requires within { 868 ≤ D.blocks device.old }
-    ensures written { OnOk result (AreWritten (edit_gate area)
-        (λ k. gate_page false) edit_slots (D.state device.new).shown) }
-    ensures confined { ConfinedTo (InEdits area) (D.state device.old) (D.state device.new) }
-    ensures others { ShowsSameOutside (InEdits area) (D.state device.old).shown
-        (D.state device.new).shown }
+    ensures written { OnOk result (AreWritten (edit_gate area) (λ k. gate_page false) edit_slots
+        (D.state device.new).shown) }
+    ensures touches { TouchesOnly D.Device (InEdits area) device.old device.new }
     ensures kept { ComesFrom (InEdits area) (D.state device.old).shown (D.state device.new).shown }
     ensures no_sync { (D.state device.new).past ≡ (D.state device.old).past }
     ensures calls { OnlyWrites D.Device (IsErr result) device.old device.new }

@@ -6,8 +6,6 @@ mod fault;
 mod manifest;
 mod snapshot;
 mod superblock;
-#[cfg(test)]
-mod tests;
 
 pub use lt_layout::OpenFault;
 pub use lt_node::{Change, CommitFault, Trie};

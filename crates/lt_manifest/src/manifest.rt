@@ -6,15 +6,16 @@ ghost use Rattle.lt_terms.specs.Bytes.{Image};
 ghost use Rattle.lt_device.specs.Calls.{OnlyReads, OnlyWrites};
 ghost use Rattle.lt_device.specs.Moments.{Leaves, ConfinedTo, UnsyncedIn, ShowsSameOutside, MayOnlyLeave};
 ghost use Rattle.lt_format.specs.Layout.{is_geometry, blocks_needed};
-ghost use Rattle.lt_format.specs.Snapshot.{extents_stand, snapshot_bytes};
-ghost use Rattle.lt_format.specs.Naming.{InManifest, manifest_in, may_commit, after_commit};
+ghost use Rattle.lt_format.specs.Snapshot.{extents_stand, snapshot_bytes, InManifest, manifest_in, may_commit};
+ghost use Rattle.lt_format.specs.Snapshot.{after_commit};
 ghost use Rattle.lt_node.specs.Changing.{change_of};
-ghost use Rattle.lt_manifest.specs.Moments.{Names, HasNew, HasOldOrNew, EditsClosed};
-ghost use Rattle.lt_manifest.specs.Opened.{IsKept, IsOpened, InSnapshot, fresh};
-ghost use Rattle.lt_manifest.specs.Written.{HasSelected, InSelected};
+ghost use Rattle.lt_manifest.specs.Promise.{Names, HasNew, HasOldOrNew, IsKept, IsOpened, InSnapshot, fresh};
+ghost use Rattle.lt_manifest.specs.Written.{HasSelected, InSelected, TouchesOnly};
 
-use crate::area::{fill_area, fill_selector, replace};
-use crate::snapshot::reading::read_snapshot;
+use crate::area::{fill_area, fill_selector, select_area, write_area};
+use crate::snapshot::header::read_front;
+use crate::snapshot::node::read_trie;
+use crate::snapshot::reading::{fault_from, front_part, read_bytes};
 use crate::snapshot::spelling::{snapshot_room, spell};
 use lt_device::Device;
 use lt_format::{Geometry, Header};
@@ -35,8 +36,8 @@ pub struct Manifest {
 
 impl Model for Manifest {
     ghost use Rattle.std.specs.Prelude.{◌≡◌};
-    ghost use Rattle.lt_format.specs.Naming.{Named};
-    ghost use Rattle.lt_manifest.specs.Opened.{IsHeld, named_by};
+    ghost use Rattle.lt_format.specs.Snapshot.{Named};
+    ghost use Rattle.lt_manifest.specs.Promise.{IsHeld, named_by};
 
     ghost Value = { Named };
 
@@ -58,7 +59,6 @@ impl Manifest {
         requires stands { IsTrue (extents_stand geometry.now (D.blocks device.old) extents) }
         ensures named { OnOk result (ForSome (D.state device.new).shown
             (λ image. manifest_in geometry.now image ≡ Ok (fresh geometry.now extents))) }
-        ensures gates { OnOk result (ForSome (D.state device.new).shown (EditsClosed 0)) }
         ensures written { OnOk result (ForSome (D.state device.new).shown
             (HasSelected 0 (snapshot_bytes (fresh geometry.now extents).manifest))) }
 
@@ -68,10 +68,7 @@ impl Manifest {
             (D.state device.new).shown }
 
         // Nor any block of area 1.
-        ensures area_confined { ConfinedTo (InSelected 0) (D.state device.old)
-            (D.state device.new) }
-        ensures area_others { ShowsSameOutside (InSelected 0) (D.state device.old).shown
-            (D.state device.new).shown }
+        ensures touches { TouchesOnly D.Device (InSelected 0) device.old device.new }
         ensures no_sync { (D.state device.new).past ≡ (D.state device.old).past }
 
         ensures no_memory { IsErrOf result CommitFault.NoMemory → device.new ≡ device.old }
@@ -116,13 +113,22 @@ impl Manifest {
         let mut page = Page::new(alloc)?;
         device.read(1, &mut page)?;
         let area = selected(&page);
-        let (header, trie) = read_snapshot(alloc, device, geometry, area, &mut page)?;
-        Ok(Manifest {
-            geometry: *geometry,
-            area,
-            header,
-            trie,
-        })
+        let first = geometry.area(area);
+        device.read(first, &mut page)?;
+        let header = front_part(page.bytes(), 40);
+        let Ok(front) = read_front(geometry, device.blocks(), header) else {
+            return Err(OpenFault::Damaged(first));
+        };
+        let bytes = read_bytes(alloc, device, first, front.total as usize, &mut page)?;
+        match read_trie(alloc, geometry, &front, &bytes) {
+            Ok(trie) => Ok(Manifest {
+                geometry: *geometry,
+                area,
+                header: front.header,
+                trie,
+            }),
+            Err(fault) => Err(fault_from(first, fault)),
+        }
     }
 
     pub fn geometry(&self) -> &Geometry
@@ -179,22 +185,14 @@ impl Manifest {
         ensures committed { OnOk result ((shown : Image) → (D.state device.old).shown ≡ Some shown
             → MayOnlyLeave (Names self.old) (D.state device.old)
             → MayOnlyLeave (HasNew self.new shown) (D.state device.new)) }
-        ensures gates { OnOk result (MayOnlyLeave (EditsClosed self.new.area)
-            (D.state device.new)) }
         ensures written { OnOk result (MayOnlyLeave
             (HasSelected self.new.area (snapshot_bytes self.new.manifest)) (D.state device.new)) }
         ensures sure { OnOk result (UnsyncedIn (λ _. ⊥) (D.state device.new)) }
 
-        // Whatever it answers, it touches no other block.
+        // Whatever it answers, it touches no other block, and none of the area that was current.
         ensures confined { ConfinedTo InManifest (D.state device.old) (D.state device.new) }
-        ensures others { ShowsSameOutside InManifest (D.state device.old).shown
-            (D.state device.new).shown }
-
-        // Nor any block of the area that was current.
-        ensures area_confined { ConfinedTo (InSelected (1 - self.old.area)) (D.state device.old)
-            (D.state device.new) }
-        ensures area_others { ShowsSameOutside (InSelected (1 - self.old.area))
-            (D.state device.old).shown (D.state device.new).shown }
+        ensures touches { TouchesOnly D.Device (InSelected (1 - self.old.area))
+            device.old device.new }
 
         ensures no_memory { IsErrOf result CommitFault.NoMemory → device.new ≡ device.old }
         ensures unchanged { IsErrOf result CommitFault.NoMemory → self.new ≡ self.old }
@@ -206,8 +204,10 @@ impl Manifest {
         self.trie.apply(alloc, change)?;
         self.header = kept(*header);
         spell(&mut bytes, &self.header, self.trie.nodes());
-        replace(device, &self.geometry, self.area, &bytes, &mut page)?;
-        self.area = 1 - self.area;
+        let other = 1 - self.area;
+        write_area(device, &self.geometry, other, &bytes, &mut page)?;
+        select_area(device, other, &mut page)?;
+        self.area = other;
         Ok(())
     }
 }

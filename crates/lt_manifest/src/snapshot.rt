@@ -3,6 +3,6 @@
 mod extents;
 mod fields;
 pub mod header;
-mod node;
+pub mod node;
 pub mod reading;
 pub mod spelling;

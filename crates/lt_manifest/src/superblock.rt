@@ -4,7 +4,7 @@ ghost use Rattle.std.specs.Prelude.{◌≡◌, ℕ, ◌≤◌, Ok, Err, IfOk, If
 ghost use Rattle.std.specs.Option.{ForSome, ok_or};
 ghost use Rattle.lt_device.specs.Calls.{OnlyReads};
 ghost use Rattle.lt_format.specs.Layout.{is_geometry, geometry_of, blocks_needed};
-ghost use Rattle.lt_format.specs.Naming.{geometry_in, roomy};
+ghost use Rattle.lt_format.specs.Snapshot.{geometry_in, roomy};
 
 use lt_device::Device;
 use lt_format::Geometry;

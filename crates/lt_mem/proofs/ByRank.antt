@@ -13,7 +13,7 @@ use Rattle.lt_terms.specs.Hashes.{rank_cmp}
 use Rattle.lt_terms.specs.Items.{Item, is_valid}
 use Rattle.lt_item.specs.declared.view.ItemView.{ItemView}
 use Rattle.lt_item.specs.Views.{item_of}
-use Rattle.lt_tables.specs.Merge.{newest, ranked}
+use Rattle.lt_tables.specs.Table.{newest, ranked}
 use Rattle.lt_tables.proofs.RankLaws.{rank_exact}
 use Rattle.lt_mem.specs.Ranking.{AreRanked, shown, ranked_entries}
 

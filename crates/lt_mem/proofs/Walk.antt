@@ -12,7 +12,7 @@ use Rattle.std.proofs.lemmas.List.Concat.{flat_map-append}
 use Rattle.lt_terms.specs.Bytes.{same_bytes}
 use Rattle.lt_terms.specs.Items.{Item, is_valid, total_cost, spelling, spellings, front_item}
 use Rattle.lt_terms.proofs.ItemLaws.{front_item-spelling}
-use Rattle.lt_tables.specs.Merge.{newest_of, versions_of}
+use Rattle.lt_tables.specs.Table.{newest_of, versions_of}
 use Rattle.lt_terms.specs.declared.Kind.TheVariants.{Put}
 use Rattle.lt_bucket.proofs.ItemsOf.{items_of-reads}
 use Rattle.lt_mem.specs.declared.table.Place.{Place}

@@ -5,6 +5,3 @@ mod ranking;
 mod table;
 
 pub use table::MemTable;
-
-#[cfg(test)]
-mod tests;

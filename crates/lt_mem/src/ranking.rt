@@ -3,7 +3,7 @@
 ghost use Rattle.std.specs.Prelude.{◌≡◌, IfOk, IsTrue};
 ghost use Rattle.std.specs.List.{list_all};
 ghost use Rattle.lt_terms.specs.Items.{is_valid};
-ghost use Rattle.lt_tables.specs.Merge.{newest, ranked};
+ghost use Rattle.lt_tables.specs.Table.{newest, ranked};
 ghost use Rattle.lt_mem.specs.Ranking.{ranked_entries, AreRanked};
 
 use lt_bucket::{Item, Items};

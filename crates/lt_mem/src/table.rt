@@ -7,7 +7,7 @@ ghost use Rattle.std.specs.Option.{option_map};
 ghost use Rattle.lt_terms.specs.Items.{is_key, is_valid, item_cost, spelling, total_cost, put_of, delete_of};
 ghost use Rattle.lt_item.specs.Parts.{parts_of};
 ghost use Rattle.lt_item.specs.Views.{item_of};
-ghost use Rattle.lt_tables.specs.Merge.{newest, newest_of};
+ghost use Rattle.lt_tables.specs.Table.{newest, newest_of};
 ghost use Rattle.lt_mem.specs.Index.{bucket_of, table_room};
 
 use crate::ranking::newest_items;

@@ -9,7 +9,7 @@ use Rattle.std.proofs.lemmas.List.FromFn.{map-range_with_len_more, get_or-map-ra
 use Rattle.std.proofs.lemmas.List.Elements.{filter-append}
 use Rattle.lt_terms.specs.Hashes.{key_digit}
 use Rattle.lt_terms.specs.Items.{Item}
-use Rattle.lt_tables.specs.Merge.{with_digit}
+use Rattle.lt_tables.specs.Table.{with_digit}
 use Rattle.lt_merge.specs.Dealing.{AreDealt}
 
 -- ---- one item more

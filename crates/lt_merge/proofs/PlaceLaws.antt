@@ -17,7 +17,7 @@ use Rattle.std.specs.BTreeMap.{insert_entry}
 use Rattle.lt_terms.specs.Bytes.{same_bytes}
 use Rattle.lt_terms.specs.Hashes.{rank_cmp}
 use Rattle.lt_terms.specs.Items.{Item}
-use Rattle.lt_tables.specs.Merge.{newest, newest_of, ranked, versions_of}
+use Rattle.lt_tables.specs.Table.{newest, newest_of, ranked, versions_of}
 use Rattle.lt_tables.specs.Alike.{HasOnce}
 use Rattle.lt_tables.proofs.PartLaws.{HasOnce-newest}
 use Rattle.lt_merge.specs.Places.{AreApart, AreFilled, PointTo, with_values}

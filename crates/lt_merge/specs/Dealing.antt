@@ -2,7 +2,7 @@
 use Rattle.std.specs.Prelude.{◌≡◌, ℕ, ◌<◌, ◌≤◌, List, length, map, slice_index}
 use Rattle.std.specs.List.{range_with_len}
 use Rattle.lt_terms.specs.Items.{Item}
-use Rattle.lt_tables.specs.Merge.{with_digit}
+use Rattle.lt_tables.specs.Table.{with_digit}
 
 -- of eight lists each holds the items of `done` with its digit, and its room is enough for those of `all`
 pub record AreDealt (level : ℕ) (done all : List Item) (lists : List (List Item)) (rooms : List ℕ) : Type 0 where

@@ -2,7 +2,7 @@
 use Rattle.std.specs.Prelude.{◌≡◌, ◌≢◌, ℕ, ◌<◌, List, Option, Some, None, IsSome, length, take, map, slice_get}
 use Rattle.std.specs.Prelude.{slice_index, slice_index_or}
 use Rattle.lt_terms.specs.Items.{Item}
-use Rattle.lt_tables.specs.Merge.{ranked}
+use Rattle.lt_tables.specs.Table.{ranked}
 
 -- no place stands twice
 pub record AreApart (places : List ℕ) : Type 0 where

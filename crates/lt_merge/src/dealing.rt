@@ -3,7 +3,7 @@
 ghost use Rattle.std.specs.Prelude.{◌≡◌, ◌==◌, ◌<◌, ◌≤◌, [], IfOk, OnOk, OnErr, length, map, vec_capacity};
 ghost use Rattle.std.specs.List.{range_with_len};
 ghost use Rattle.lt_terms.specs.Hashes.{key_digit};
-ghost use Rattle.lt_tables.specs.Merge.{with_digit};
+ghost use Rattle.lt_tables.specs.Table.{with_digit};
 ghost use Rattle.lt_merge.specs.Dealing.{AreDealt};
 
 use lt_bucket::Item;

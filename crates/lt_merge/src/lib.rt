@@ -9,6 +9,3 @@ mod puts;
 pub use dealing::deal_by;
 pub use merging::newest;
 pub use puts::without_deletes;
-
-#[cfg(test)]
-mod tests;

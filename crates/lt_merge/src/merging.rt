@@ -3,7 +3,7 @@
 ghost use Rattle.std.specs.Prelude.{◌≡◌, ◌+◌, ◌≤◌, [], ◌++◌, Some, IfOk, OnOk, OnErr, length, map, slice_index_or};
 ghost use Rattle.std.specs.Prelude.{vec_len, vec_capacity, None};
 ghost use Rattle.std.specs.List.{flat_map};
-ghost use Rattle.lt_tables.specs.Merge.{newest};
+ghost use Rattle.lt_tables.specs.Table.{newest};
 ghost use Rattle.lt_merge.specs.Places.{AreApart, AreFilled};
 
 use super::places::{Places, places_of};

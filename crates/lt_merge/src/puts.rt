@@ -1,7 +1,7 @@
 //! The puts among items.
 
 ghost use Rattle.std.specs.Prelude.{◌≡◌};
-ghost use Rattle.lt_tables.specs.Merge.{is_put, without_deletes};
+ghost use Rattle.lt_tables.specs.Table.{is_put, without_deletes};
 
 use lt_bucket::Item;
 use lt_terms::Kind;

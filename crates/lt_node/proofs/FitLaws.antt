@@ -2,10 +2,9 @@
 use Rattle.std.proofs.Common.{◌≡◌, ℕ, suc, ◌+◌, ◌<◌, sym, ap, ◌∙◌, true, false, ◌&&◌, List, ◌∷◌, map, length, get_or, drop, drop-cons, add-one}
 use Rattle.lt_format.specs.declared.node_id.NodeId.{NodeId}
 use Rattle.lt_format.specs.Trie.{Trie}
-use Rattle.lt_format.specs.Changes.{children_fit}
+use Rattle.lt_format.specs.Changes.{child_fits, children_fit}
 use Rattle.lt_node.specs.declared.change.ChildChange.{ChildChange}
 use Rattle.lt_node.specs.Changing.{child_of}
-use Rattle.lt_node.specs.Marks.{child_fits}
 
 cut : (cs : List ChildChange) (i : ℕ) (item : ChildChange) → item ≡ get_or cs i item → i < length cs → map child_of (drop i cs) ≡ child_of item ∷ map child_of (drop (i + 1) cs)
 cut cs i item is within = rw add-one (ap (map child_of) (drop-cons cs i item within) ∙ ap (λ c. child_of c ∷ map child_of (drop (suc i) cs)) (sym is))

@@ -7,13 +7,13 @@ use Rattle.std.proofs.lemmas.List.{get_or-set_same, get_or-set_other, get_or-rep
 use Rattle.std.proofs.lemmas.List.Folds.{list_all-append}
 use Rattle.std.proofs.lemmas.Grind.{flat_map-append}
 use Rattle.std.proofs.Math.Bool.{and_assoc, and-true}
-use Rattle.lt_terms.specs.Numbers.{is_in}
+use Rattle.lt_terms.specs.Bytes.{is_in}
 use Rattle.lt_format.specs.declared.node_id.NodeId.{NodeId}
 use Rattle.lt_format.specs.Trie.{Node, Trie, node_extents, named, all_distinct, all_below}
-use Rattle.lt_format.specs.Changes.{ChildChange, are_new}
+use Rattle.lt_format.specs.Changes.{ChildChange, are_new, given_extents}
 use Rattle.lt_node.specs.declared.change.ChildChange.{ChildChange as Child}
 use Rattle.lt_node.specs.Changing.{child_of, freed_groups}
-use Rattle.lt_node.specs.Marks.{AreMarks, are_fresh, TellsNew, given_extents}
+use Rattle.lt_node.specs.Marks.{AreMarks, are_fresh, TellsNew}
 use Rattle.lt_tables.proofs.FilterLaws.{in_append, eqb_sym}
 
 or_none : (a b : Bool) → b ≡ false → (a || b) ≡ a

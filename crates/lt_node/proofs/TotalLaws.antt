@@ -1,7 +1,7 @@
 -- How many tables a trie has.
 use Rattle.std.proofs.Common.{◌≡◌, ℕ, suc, ◌+◌, ◌<◌, ◌≤◌, refl, sym, ap, subst, ◌∙◌, Bool, true, false, not, cond, Option, Some, None, List, [], ◌∷◌, ◌++◌, length, get_or, drop, drop-cons, add-one, arith, length-append}
 use Rattle.std.specs.Prelude.{◌==◌, ◌&&◌}
-use Rattle.lt_terms.specs.Numbers.{is_in}
+use Rattle.lt_terms.specs.Bytes.{is_in}
 use Rattle.std.specs.Option.{unwrap_or}
 use Rattle.std.specs.declared.cmp.Ordering.{Ordering}
 use Rattle.std.specs.declared.cmp.Ordering.TheVariants.{Less, Equal, Greater}

@@ -1,11 +1,7 @@
 -- Flags that mark numbers, and numbers that are new beside marked ones.
-use Rattle.std.specs.Prelude.{◌≡◌, ℕ, ◌+◌, ◌*◌, ◌<◌, Bool, true, false, not, ◌&&◌, List, [], ◌∷◌, ◌++◌, length, nat_le}
-use Rattle.std.specs.Prelude.{nat_lt, ◌==◌, slice_index_or, IsTrue}
-use Rattle.std.specs.List.{flat_map}
-use Rattle.lt_terms.specs.Numbers.{is_in}
-use Rattle.lt_format.specs.declared.node_id.NodeId.{NodeId}
-use Rattle.lt_format.specs.Trie.{Trie, node_at, is_last_level}
-use Rattle.lt_format.specs.Changes.{ChildChange, groups_fit}
+use Rattle.std.specs.Prelude.{◌≡◌, ℕ, ◌<◌, Bool, true, false, not, ◌&&◌, List, [], ◌∷◌, ◌++◌, length}
+use Rattle.std.specs.Prelude.{nat_lt, slice_index_or, IsTrue}
+use Rattle.lt_terms.specs.Bytes.{is_in}
 
 -- a flag is set exactly where its number was seen
 abbrev pub AreMarks : List Bool → List ℕ → Type 0
@@ -21,16 +17,6 @@ pub record TellsNew (limit : ℕ) (seen xs : List ℕ) (answer : Bool) (new : Li
   pub told : answer ≡ are_fresh limit seen xs
   pub marks : IsTrue answer → AreMarks new (seen ++ xs)
 
--- so for all numbers that the flags may mark
+-- whatever numbers the flags marked before, the answer tells whether these are new beside them
 abbrev pub MarksNew : List Bool → List ℕ → Bool → List Bool → Type 0
 MarksNew old xs answer new = (seen : List ℕ) → AreMarks old seen → TellsNew (length old) seen xs answer new
-
--- a child of the node that fits it, whose number is at least this
-abbrev pub child_fits : ℕ → Trie → NodeId → ℕ → ChildChange → Bool
-child_fits levels trie node from c =
-    c.node.level == node.level + 1 && nat_le from c.node.number && nat_lt c.node.number (8 * node.number + 8)
-    && nat_le 1 (length c.tables) && groups_fit (is_last_level levels c.node) (length (node_at trie c.node).tables) c
-
--- the extents that a deal newly names
-abbrev pub given_extents : List ChildChange → List ℕ
-given_extents children = flat_map (λ (c : ChildChange). c.tables ++ c.groups) children

@@ -1,10 +1,10 @@
 -- What a place among nodes in order says of the nodes.
 use Rattle.std.specs.Prelude.{◌≡◌, ℕ, ◌<◌, ◌≤◌, not, Result, Ok, Err, Option, Some, None, length, slice_set}
+use Rattle.std.specs.Prelude.{slice_index_or}
 use denote.Ref.{Bor}
 use Rattle.std.specs.FinMap.{find, put}
 use Rattle.std.specs.FinMap.Entries.{where_key}
 use Rattle.std.specs.List.{insert, remove}
-use Rattle.std.specs.Prelude.{slice_index_or}
 use Rattle.lt_format.specs.declared.node_id.NodeId.{NodeId}
 use Rattle.lt_format.specs.Trie.{Node, Trie, node_cmp, same_node}
 

@@ -2,9 +2,10 @@
 
 ghost use Rattle.std.specs.Prelude.{◌≡◌, ◌+◌, ◌*◌, ◌<◌, ◌≤◌, [], ◌∷◌, ◌++◌, List, ℕ, IsTrue, length, map};
 ghost use Rattle.lt_format.specs.Trie.{all_below, groups_for, is_node, is_last_level, named, node_extents};
-ghost use Rattle.lt_format.specs.Changes.{are_new, children_fit, fits, groups_fit, new_extents, shape_fits};
+ghost use Rattle.lt_format.specs.Changes.{are_new, child_fits, children_fit, fits, given_extents, groups_fit};
+ghost use Rattle.lt_format.specs.Changes.{new_extents, shape_fits};
 ghost use Rattle.lt_node.specs.Changing.{change_of, child_of};
-ghost use Rattle.lt_node.specs.Marks.{AreMarks, MarksNew, child_fits, given_extents};
+ghost use Rattle.lt_node.specs.Marks.{AreMarks, MarksNew};
 
 use crate::change::{Change, ChildChange};
 use crate::entry::NodeEntry;

@@ -3,8 +3,8 @@
 ghost use Rattle.std.specs.Prelude.{◌≡◌, ℕ, ◌≤◌, List, All, IsTrue, length, drop, false};
 ghost use Rattle.lt_format.specs.declared.node_id.NodeId.{NodeId};
 ghost use Rattle.lt_format.specs.Trie.{Node, Trie, root, node_at};
-ghost use Rattle.lt_format.specs.Changes.{Change, ChildChange, flush, deal, rewrite, fits, after_change};
-ghost use Rattle.lt_format.specs.Changes.{appended, child_after};
+ghost use Rattle.lt_format.specs.Changes.{Change, ChildChange, flush, deal, rewrite, fits, after_change, appended};
+ghost use Rattle.lt_format.specs.Changes.{child_after};
 ghost use Rattle.lt_node.specs.Changing.{sets};
 
 /// After a flush the root's pile has the new tables behind its old ones.

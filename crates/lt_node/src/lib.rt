@@ -22,6 +22,3 @@ pub use laws::{
 pub use lt_format::{Header, NodeId};
 pub use numbers::Numbers;
 pub use trie::Trie;
-
-#[cfg(test)]
-mod tests;

@@ -12,5 +12,6 @@ abbrev pub with_value : {T A : Type 0} → Block T A → T → Block T A
 with_value block value = record { at = block.at; alloc = block.alloc; value = value }
 
 -- once the loan r ends, the block behind b holds the last value that was written through r
-abbrev pub block_follows : (T A : RattleType) (g : Ghosts A.Denot) → MutBor (Block T.Denot A.Denot) → MutBor T.Denot → Fml
+abbrev pub block_follows :
+    (T A : RattleType) (g : Ghosts A.Denot) → MutBor (Block T.Denot A.Denot) → MutBor T.Denot → Fml
 block_follows T A g b r = follows (the_row T A g) T b.ghost_name r.ghost_name (with_value b.now)

@@ -5,7 +5,7 @@ use Rattle.std.proofs.lemmas.Option.{none-some}
 use Rattle.std.proofs.lemmas.List.{length-append}
 use Rattle.lt_terms.specs.Bytes.{Image, block_at}
 use Rattle.lt_terms.specs.Items.{Item}
-use Rattle.lt_device.specs.Image.{SameOutside}
+use Rattle.lt_device.specs.State.{SameOutside}
 use Rattle.lt_format.specs.declared.geometry.Geometry.{Geometry}
 use Rattle.lt_format.specs.Layout.{is_open, log_gate, log_content, first_open, closed_from}
 use Rattle.lt_format.specs.Log.{log_from, with_group, read_with, group_on, log_fits, items_in}

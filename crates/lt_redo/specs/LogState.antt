@@ -1,9 +1,11 @@
 -- What a log is in memory, and the facts that it keeps.
 use Rattle.std.specs.Prelude.{◌≡◌, ℕ, ◌+◌, ◌-◌, ◌<◌, ◌≤◌, Bool, true, false, List, [], ◌∷◌, ◌++◌, IsTrue}
+use Rattle.lt_terms.specs.Bytes.{Image}
 use Rattle.lt_terms.specs.Items.{Item}
 use Rattle.lt_format.specs.declared.geometry.Geometry.{Geometry}
 use Rattle.lt_format.specs.Layout.{is_geometry, gate_page}
 use Rattle.lt_redo.specs.Group.{items_on, IsGathered}
+use Rattle.lt_redo.specs.Slots.{HasLog}
 
 -- the log area, the number of writes at its start, how many of its slots hold a group, the items of the open group,
 -- and whether the other area was cleared since the log came here
@@ -19,6 +21,10 @@ pub record LogState : Type 0 where
 abbrev pub idle_log : Geometry → ℕ → ℕ → ℕ → LogState
 idle_log g area writes slots =
     record { geometry = g; area = area; writes = writes; slots = slots; pending = []; cleared = false }
+
+-- the image has these groups where this log lies
+abbrev pub HasGroups : LogState → List (List Item) → Image → Type 0
+HasGroups log groups image = HasLog log.geometry log.area log.writes groups image
 
 -- the other log area
 abbrev pub other_area : ℕ → ℕ

@@ -1,39 +1,15 @@
 //! Closing the gates of a log area.
 
-ghost use Rattle.std.specs.Prelude.{◌≡◌, ℕ, ◌+◌, ◌*◌, ◌≤◌, [], false, Some, IsErr, OnOk};
+ghost use Rattle.std.specs.Prelude.{◌≡◌, ◌≤◌, false, Some, IsErr, OnOk};
 ghost use Rattle.lt_terms.specs.Bytes.{Image};
 ghost use Rattle.lt_device.specs.Calls.{OnlyWrites};
-ghost use Rattle.lt_device.specs.Moments.{ConfinedTo, UnsyncedIn, MayOnlyLeave};
+ghost use Rattle.lt_device.specs.Moments.{ConfinedTo};
 ghost use Rattle.lt_format.specs.Layout.{log_gate, gate_page};
-ghost use Rattle.lt_redo.specs.Slots.{HasLog, HasZeroGates, InLogArea, IsCleared};
+ghost use Rattle.lt_redo.specs.Slots.{HasZeroGates, InLogArea, IsCleared};
 
 use lt_device::Device;
 use lt_format::Geometry;
 use lt_page::{Failed, Page};
-
-/// Closes all gates of a log area and makes sure of that.
-pub fn clear_area<D: Device>(
-    device: &mut D,
-    geometry: &Geometry,
-    area: u8,
-    closed: &Page,
-) -> Result<(), Failed>
-    requires within { log_gate geometry.now area geometry.now.slots ≤ D.blocks device.old }
-    requires closes { closed.now ≡ gate_page false }
-    ensures cleared { OnOk result (MayOnlyLeave (IsCleared geometry.now area)
-        (D.state device.new)) }
-    ensures zeros { OnOk result (MayOnlyLeave (HasZeroGates geometry.now area)
-        (D.state device.new)) }
-    ensures empty { OnOk result ((writes : ℕ)
-        → MayOnlyLeave (HasLog geometry.now area writes []) (D.state device.new)) }
-    ensures confined { ConfinedTo (InLogArea geometry.now area) (D.state device.old)
-        (D.state device.new) }
-    ensures sure { OnOk result (UnsyncedIn (λ _. ⊥) (D.state device.new)) }
-    ensures calls { OnlyWrites D.Device (IsErr result) device.old device.new }
-{
-    close_gates(device, geometry, area, closed)?;
-    device.sync()
-}
 
 /// Closes all gates of a log area. It does not sync.
 pub fn close_gates<D: Device>(

@@ -8,8 +8,6 @@ mod log;
 mod opening;
 mod replay;
 mod slot;
-#[cfg(test)]
-mod tests;
 
 pub use clear::close_gates;
 pub use laws::logs_are_local;

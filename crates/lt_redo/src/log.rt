@@ -11,11 +11,11 @@ ghost use Rattle.lt_device.specs.Calls.{OnlyReads, OnlyWrites};
 ghost use Rattle.lt_device.specs.Moments.{Leaves, ConfinedTo, UnsyncedIn, MayOnlyLeave};
 ghost use Rattle.lt_format.specs.Layout.{is_geometry, extent_block};
 ghost use Rattle.lt_format.specs.Log.{group_room, group_page, log_fits, log_groups, items_in};
-ghost use Rattle.lt_redo.specs.LogState.{LogState, idle_log, other_area, slots_with, groups_with};
+ghost use Rattle.lt_redo.specs.LogState.{LogState, HasGroups, idle_log, other_area, slots_with, groups_with};
 ghost use Rattle.lt_redo.specs.Opening.{HasItems};
-ghost use Rattle.lt_redo.specs.Slots.{InSlot, InLogArea, HasLog, HasLogOrLonger, HasZeroGates, HoldsPages, IsCleared};
+ghost use Rattle.lt_redo.specs.Slots.{InSlot, InLogArea, HasLog, HasLogOrLonger, HasZeroGates, HoldsPages};
 
-use crate::clear::clear_area;
+use crate::clear::close_gates;
 use crate::group::{GROUP_ROOM, finish, gather};
 use crate::opening::replay;
 use crate::slot::write_slot;
@@ -197,8 +197,7 @@ impl Log {
         // Each image since the start has the log as before, or with the whole open group.
         ensures any_moment { (groups : List (List terms.Item)) → length groups ≡ self.old.slots
             → IsTrue (log_fits self.old.writes (items_in (groups ++ self.old.pending ∷ [])))
-            → MayOnlyLeave (HasLog self.old.geometry self.old.area self.old.writes groups)
-            (D.state device.old)
+            → MayOnlyLeave (HasGroups self.old groups) (D.state device.old)
             → Leaves
             (HasLogOrLonger self.old.geometry self.old.area self.old.writes groups self.old.pending)
             (D.state device.old) (D.state device.new) }
@@ -207,10 +206,9 @@ impl Log {
         ensures committed { OnOk result ((groups : List (List terms.Item))
             → length groups ≡ self.old.slots
             → IsTrue (log_fits self.old.writes (items_in (groups ++ self.old.pending ∷ [])))
-            → MayOnlyLeave (HasLog self.old.geometry self.old.area self.old.writes groups)
-            (D.state device.old)
-            → MayOnlyLeave (HasLog self.old.geometry self.old.area self.old.writes
-            (groups_with groups self.old.pending)) (D.state device.new)) }
+            → MayOnlyLeave (HasGroups self.old groups) (D.state device.old)
+            → MayOnlyLeave (HasGroups self.old (groups_with groups self.old.pending))
+            (D.state device.new)) }
 
         // The slot holds the group in its one spelling, whatever stood on the device before.
         ensures spelled { OnOk result (0 < length self.old.pending
@@ -246,8 +244,6 @@ impl Log {
         requires { extent_block self.old.geometry 0 ≤ D.blocks device.old }
         ensures ok { OnOk result (self.new ≡ record self.old { cleared = true }) }
         ensures err { OnErr result (self.new ≡ self.old) }
-        ensures cleared { OnOk result (MayOnlyLeave
-            (IsCleared self.old.geometry (other_area self.old.area)) (D.state device.new)) }
         ensures zeros { OnOk result (MayOnlyLeave
             (HasZeroGates self.old.geometry (other_area self.old.area)) (D.state device.new)) }
         ensures empty { OnOk result ((writes : ℕ)
@@ -255,17 +251,11 @@ impl Log {
             (D.state device.new)) }
         ensures confined { ConfinedTo (InLogArea self.old.geometry (other_area self.old.area))
             (D.state device.old) (D.state device.new) }
-
-        // Whatever it answers, each image since the start has the log of the current area as before.
-        ensures kept { (groups : List (List terms.Item))
-            → MayOnlyLeave (HasLog self.old.geometry self.old.area self.old.writes groups)
-            (D.state device.old)
-            → Leaves (HasLog self.old.geometry self.old.area self.old.writes groups)
-            (D.state device.old) (D.state device.new) }
         ensures sure { OnOk result (UnsyncedIn (λ _. ⊥) (D.state device.new)) }
         ensures calls { OnlyWrites D.Device (IsErr result) device.old device.new }
     {
-        clear_area(device, &self.geometry, 1 - self.area, &self.closed)?;
+        close_gates(device, &self.geometry, 1 - self.area, &self.closed)?;
+        device.sync()?;
         self.cleared = true;
         Ok(())
     }

@@ -86,11 +86,11 @@ taken-event (events.Get key) command outcome page is = let same : commands.get k
 taken-event events.Stat command outcome page is = let same : commands.stat ≡ command = cc in subst (λ x. IsTakenAs x None outcome (reply_of outcome page)) same (taken-stat outcome page)
 taken-event events.Commit command outcome page is = absurd (cc)
 
-abbrev IsOkAs : Outcome → Option Reply → Type 0
+abbrev pub IsOkAs : Outcome → Option Reply → Type 0
 IsOkAs outcome (Some reply) = is_taken outcome ≡ is_ok reply
 IsOkAs outcome None = Unit {0}
 
-ok-as : (outcome : Outcome) (page : List ℕ) → IsOkAs outcome (reply_of outcome page)
+pub ok-as : (outcome : Outcome) (page : List ℕ) → IsOkAs outcome (reply_of outcome page)
 ok-as (outcomes.Taken answer.Ok) page = refl
 ok-as (outcomes.Taken (answer.Full n f)) page = refl
 ok-as (outcomes.Taken answer.Limit) page = refl
@@ -100,7 +100,7 @@ ok-as (outcomes.Stat s) page = refl
 ok-as outcomes.Committed page = tt
 
 -- the value of a get stands at the front of the page
-same-text : (outcome : Outcome) (page value : List ℕ) → ((n : ℕ) → outcome ≡ outcomes.Value n → value ≡ take n page) → HasValue outcome value → outcome_text outcome value ≡ reply_text (reply_of outcome page)
+pub same-text : (outcome : Outcome) (page value : List ℕ) → ((n : ℕ) → outcome ≡ outcomes.Value n → value ≡ take n page) → HasValue outcome value → outcome_text outcome value ≡ reply_text (reply_of outcome page)
 same-text (outcomes.Taken answer.Ok) page value front has = refl
 same-text (outcomes.Taken (answer.Full n f)) page value front has = refl
 same-text (outcomes.Taken answer.Limit) page value front has = refl

@@ -1,11 +1,15 @@
 pub mod ActLaws
+pub mod CallLaws
 pub mod LineLaws
 pub mod OverLaws
 pub mod PieceLaws
 pub mod ResultLaws
 pub mod RoundLaws
 pub mod RunLaws
+pub mod SeeingLaws
 pub mod SendLaws
 pub mod ShownLaws
+pub mod SightLaws
 pub mod SizeLaws
+pub mod TellsLaws
 pub mod TurnLaws

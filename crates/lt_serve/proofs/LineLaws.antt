@@ -3,8 +3,7 @@ use Rattle.std.proofs.Common.{◌≡◌, ◌≢◌, ◌<◌, ℕ, ap, ◌∙◌,
 use Rattle.std.specs.Bool.{IsFalse}
 use Rattle.std.proofs.lemmas.Bool.{cases_lt}
 use Rattle.std.proofs.lemmas.List.{drop_all, map-append, take_rest}
-use Rattle.lt_language.specs.Commands.{command_of, commands}
-use Rattle.lt_language.specs.Lines.{line_feed, has_line_feed, lines_of, rest_of}
+use Rattle.lt_language.specs.Commands.{command_of, commands, line_feed, has_line_feed, lines_of, rest_of}
 use Rattle.lt_language.proofs.LineLaws.{split_lines-append, split_lines-unbroken, split_lines-ended}
 
 pub commands-append : (x y : List ℕ) → commands (x ++ y) ≡ commands x ++ commands (rest_of x ++ y)

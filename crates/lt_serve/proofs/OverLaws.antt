@@ -1,6 +1,6 @@
 -- Serving is over.
 use Rattle.std.proofs.Common.{◌≡◌, ℕ, ◌+◌, ◌≤◌, refl, sym, ap, subst, ◌∙◌, List, [], ◌∷◌, ◌++◌, length, take, drop, length-append, append_assoc, append-nil, take-append-drop, arith}
-use Rattle.std.proofs.lemmas.List.{length-map, take-append-le, take_all}
+use Rattle.std.proofs.lemmas.List.{length-map, take-append-le}
 use Rattle.std.proofs.Math.Seq.{take-length, take-append-add}
 use Rattle.lt_terms.specs.Bytes.{Image}
 use Rattle.lt_terms.specs.Items.{Item}
@@ -11,8 +11,7 @@ use Rattle.lt_image.specs.Standing.{IsPrefix, after_writes}
 use Rattle.lt_image.proofs.KeptLaws.{no_writes, writes-joined}
 use Rattle.lt_image.proofs.PrefixLaws.{prefix-whole, prefix-fewer, prefix-longer, prefix-later}
 use Rattle.lt_language.specs.declared.Bad.TheVariants.{End}
-use Rattle.lt_language.specs.Commands.{bad, command_of, commands, refused_rest}
-use Rattle.lt_language.specs.Lines.{lines_of, rest_of}
+use Rattle.lt_language.specs.Commands.{bad, command_of, commands, refused_rest, lines_of, rest_of}
 use Rattle.lt_language.specs.Machine.{State}
 use Rattle.lt_language.specs.Replies as replies
 use Rattle.lt_language.specs.Replies.{Reply, text, texts}
@@ -79,7 +78,7 @@ runs-refused : (e : ℕ) (s : State) → Runs e s (bad End ∷ []) (replies.bad 
 runs-refused e s = record { run = (s, (refl, refl), no_writes s); taken_are = refl }
 
 -- bytes after the last line feed are refused
-refused-some : (rest : List ℕ) → (rest ≡ [] → ⊥) → refused_rest rest ≡ bad End ∷ []
+pub refused-some : (rest : List ℕ) → (rest ≡ [] → ⊥) → refused_rest rest ≡ bad End ∷ []
 refused-some [] some = absurd (some refl)
 refused-some (b ∷ rest) some = refl
 

@@ -9,13 +9,12 @@ use Rattle.lt_terms.specs.Items.{Item}
 use Rattle.lt_page.specs.declared.errors.Failed.{Failed}
 use Rattle.lt_device.specs.Moments.{Leaves, MayLeave}
 use Rattle.lt_device.specs.State as told
-use Rattle.lt_io.specs.Sink.{Gains}
+use Rattle.lt_io.specs.Streams.{Gains}
 use Rattle.lt_io.proofs.Flows.{Gains-none, Gains-more}
 use Rattle.lt_image.specs.Standing.{IsPrefix, after_writes}
 use Rattle.lt_image.proofs.KeptLaws.{writes-joined}
 use Rattle.lt_image.proofs.PrefixLaws.{prefix-fewer, prefix-later}
-use Rattle.lt_language.specs.Commands.{Command, commands, refused_rest}
-use Rattle.lt_language.specs.Lines.{lines_of, rest_of}
+use Rattle.lt_language.specs.Commands.{Command, commands, refused_rest, lines_of, rest_of}
 use Rattle.lt_language.specs.Machine.{State}
 use Rattle.lt_language.specs.Replies.{Reply, texts}
 use Rattle.lt_line.specs.Held.{HeldLine, kept_of}
@@ -29,8 +28,7 @@ use Rattle.lt_serve.specs.declared.faults.RoundFault.TheVariants as faults
 use Rattle.lt_serve.specs.declared.served.Served.{Served}
 use Rattle.lt_serve.specs.declared.served.Served.TheVariants as served
 use Rattle.lt_serve.specs.Faults.{IsLost, IsHalt, served_of}
-use Rattle.lt_serve.specs.Promise.{IsPause, IsInnerHalt, IsSettled, Runs, StartWithOk, acknowledged, Over}
-use Rattle.lt_serve.specs.Promise.{SteppedOver}
+use Rattle.lt_serve.specs.Promise.{IsPause, IsInnerHalt, IsSettled, Runs, StartWithOk, acknowledged, Over, SteppedOver}
 use Rattle.lt_serve.specs.Rounds.{Round, Stopped}
 use Rattle.lt_serve.specs.Runs.{ok_count}
 use Rattle.lt_serve.specs.Sending.{Sends}
@@ -99,14 +97,14 @@ piece-untold e s bytes more kept waiting0 waiting unsent w count stands0 stands 
     }
 
 -- what the sink took of some text, all of it where its count did not rise
-record Told (stands0 stands : List ℕ → Type 0) (faults0 faults : ℕ) (said : List ℕ) : Type 0 where
-  output : List ℕ
-  behind : List ℕ
-  whole : said ≡ output ++ behind
-  gained : Gains stands0 stands output
-  all : (Rose faults0 faults → ⊥) → behind ≡ []
+pub record Told (stands0 stands : List ℕ → Type 0) (faults0 faults : ℕ) (said : List ℕ) : Type 0 where
+  pub output : List ℕ
+  pub behind : List ℕ
+  pub whole : said ≡ output ++ behind
+  pub gained : Gains stands0 stands output
+  pub all : (Rose faults0 faults → ⊥) → behind ≡ []
 
-told-of : (result : Result (Unit {0}) Failed) (stands0 stands : List ℕ → Type 0) (faults0 faults : ℕ) (waiting unsent : Waiting) → OnOk result (Sends (length waiting.settled_text) stands0 stands waiting unsent) → OnErr result ((count : ℕ) × Sends count stands0 stands waiting unsent) → HasCause faults0 faults result → Told stands0 stands faults0 faults waiting.settled_text
+pub told-of : (result : Result (Unit {0}) Failed) (stands0 stands : List ℕ → Type 0) (faults0 faults : ℕ) (waiting unsent : Waiting) → OnOk result (Sends (length waiting.settled_text) stands0 stands waiting unsent) → OnErr result ((count : ℕ) × Sends count stands0 stands waiting unsent) → HasCause faults0 faults result → Told stands0 stands faults0 faults waiting.settled_text
 told-of (Ok u) stands0 stands faults0 faults waiting unsent all front cause = record {
   output = waiting.settled_text;
   behind = [];

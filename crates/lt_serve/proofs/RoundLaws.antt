@@ -8,8 +8,7 @@ use Rattle.lt_device.specs.Moments.{Leaves}
 use Rattle.lt_device.specs.State as told
 use Rattle.lt_image.specs.Standing.{IsPrefix, after_writes}
 use Rattle.lt_image.proofs.KeptLaws.{no_writes, writes-joined}
-use Rattle.lt_language.specs.Commands.{Command, command_of, commands}
-use Rattle.lt_language.specs.Lines.{line_feed, has_line_feed, lines_of, rest_of}
+use Rattle.lt_language.specs.Commands.{Command, command_of, commands, line_feed, has_line_feed, lines_of, rest_of}
 use Rattle.lt_language.specs.Machine.{State}
 use Rattle.lt_language.specs.Replies as replies
 use Rattle.lt_language.specs.Replies.{Reply, text, texts}
@@ -24,7 +23,7 @@ use Rattle.lt_store.proofs.RootedLaws.{rooted-joins, rooted-none}
 use Rattle.lt_serve.specs.declared.faults.RoundFault.{RoundFault}
 use Rattle.lt_serve.specs.declared.faults.RoundFault.TheVariants as faults
 use Rattle.lt_serve.specs.Acting.{Answered, Answers, Lost, settled_unless}
-use Rattle.lt_serve.specs.Rounds.{AtCommit, AtLine, Committed, Round, Stopped, Went, all_text}
+use Rattle.lt_serve.specs.Rounds.{AtCommit, AtLine, Round, Stopped, Went, all_text}
 use Rattle.lt_serve.specs.Runs.{ok_count}
 use Rattle.lt_serve.specs.Promise.{Runs, StartWithOk, is_ok}
 use Rattle.lt_serve.proofs.LineLaws.{commands-append, commands-unbroken, commands-ended, lines-ended, rest_of-unbroken, rest_of-ended}
@@ -303,21 +302,26 @@ module _ (v : StoreView) (durable : State) (bytes kept : List ℕ) (wrote : Bool
         short = λ some. omega (arith, short some, went.room, long);
       })
 
-  -- all writes are durable
-  pub committed-after : (x : StoreView) (new : told.State) → Goes w [] x (after_writes durable (take went.goes.sure (v.log.pending ++ went.writes))) mid new → Leaves IsRooted mid new → (w.log.pending ≡ [] → new ≡ mid) → x.log.pending ≡ [] → Committed (extents_of v) durable bytes kept waiting0 waiting x old new
-  committed-after x new commit rooted idle none =
+  -- all writes are durable, and the replies are settled
+  pub round-after : (x : StoreView) (new : told.State) → Goes w [] x (after_writes durable (take went.goes.sure (v.log.pending ++ went.writes))) mid new → Leaves IsRooted mid new → (w.log.pending ≡ [] → new ≡ mid) → x.log.pending ≡ []
+      → (first settled : Waiting) → waiting0 ≡ all_settled first → settled ≡ all_settled waiting → Round (extents_of v) durable bytes kept first settled x old new
+  round-after x new commit rooted idle none first settled begun is =
       let g = goes-behind v w went.writes durable old mid went.goes x [] new commit in
       let given : List Item = v.log.pending ++ (went.writes ++ []) in
       let given_are : given ≡ went.writes = ap (λ xs. v.log.pending ++ xs) (append-nil went.writes) ∙ all_are in
       let whole : take g.sure given ≡ went.writes = sym (append-nil (take g.sure given)) ∙ ap (λ xs. take g.sure given ++ xs) (sym none ∙ g.pending) ∙ take-append-drop g.sure given ∙ given_are in
+      let all : List Reply = went.shown ++ went.hidden in
+      let room0 : waiting0.room ≡ first.room = ap (λ (t : Waiting). t.room) begun in
+      let room : waiting.room ≡ first.room - length (texts all) = omega (arith, went.room, long, room0) in
+      let told : all_text waiting ≡ all_text first ++ texts all = ap (λ s. s ++ waiting.pending_text) went.settled ∙ append_assoc waiting0.settled_text (texts went.shown) waiting.pending_text
+      ∙ ap (λ t. waiting0.settled_text ++ t) (ap (λ t. texts went.shown ++ t) went.pending ∙ sym joined) ∙ ap (λ (t : Waiting). t.settled_text ++ texts all) begun in
       record {
-        replies = went.shown ++ went.hidden;
+        replies = all;
         writes = went.writes;
         runs = runs-durable;
         line = went.line;
-        fits = omega (arith, went.room, long);
-        told = ap (λ s. s ++ waiting.pending_text) went.settled ∙ append_assoc waiting0.settled_text (texts went.shown) waiting.pending_text ∙ ap (λ t. waiting0.settled_text ++ t) (ap (λ t. texts went.shown ++ t) went.pending ∙ sym joined);
-        room = omega (arith, went.room, long);
+        fits = omega (arith, went.room, long, room0);
+        told = is ∙ ap (λ t. record { settled_text = t; pending_text = []; room = waiting.room }) told ∙ ap (λ n. record { settled_text = all_text first ++ texts all; pending_text = []; room = n }) room;
         opened = subst (λ xs. IsOpen x (after_writes durable xs) new) whole g.opened;
         since = subst (λ xs. Leaves (λ left. IsPrefix left durable xs 0) old new) given_are g.survives;
         rooted = rooted-joins old mid new rooted went.rooted;
@@ -346,22 +350,6 @@ stopped-order e durable bytes held fault waiting0 settled old new p = elim (case
 -- a commit that failed
 pub lost-commit : (w : StoreView) (durable : State) (old new : told.State) → Survives w [] durable old new → Leaves IsRooted old new → Lost w durable faults.Device old new
 lost-commit w durable old new survives rooted = record { lost = tt; survives = survives; rooted = rooted; rests = λ is. absurd (cc) }
-
--- the replies are settled
-pub round-settled : (e : ℕ) (durable : State) (bytes kept : List ℕ) (waiting0 waiting waiting' : Waiting) (w : StoreView) (old new : told.State) → Committed e durable bytes kept (all_settled waiting0) waiting w old new → waiting' ≡ all_settled waiting
-    → Round e durable bytes kept waiting0 waiting' w old new
-round-settled e durable bytes kept waiting0 waiting waiting' w old new c is = record {
-  replies = c.replies;
-  writes = c.writes;
-  runs = c.runs;
-  line = c.line;
-  fits = c.fits;
-  told = is ∙ ap (λ t. record { settled_text = t; pending_text = []; room = waiting.room }) c.told ∙ ap (λ n. record { settled_text = all_text waiting0 ++ texts c.replies; pending_text = []; room = n }) c.room;
-  opened = c.opened;
-  since = c.since;
-  rooted = c.rooted;
-  quiet = c.quiet;
-}
 
 -- ---- a line
 

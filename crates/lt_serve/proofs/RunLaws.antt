@@ -1,8 +1,7 @@
 -- Runs of the map machine, one after another.
 use Rattle.std.proofs.Common.{◌≡◌, ℕ, suc, ◌+◌, ◌≤◌, refl, sym, ap, subst, ◌∙◌, List, [], ◌∷◌, ◌++◌, length, append_assoc, length-append, false, cond, Option, Some, None, arith}
 use Rattle.std.proofs.lemmas.List.Sums.{sum_by-cons, sum_by-append}
-use Rattle.lt_terms.specs.Items.{Item}
-use Rattle.lt_terms.specs.Maps.{value_at}
+use Rattle.lt_terms.specs.Items.{Item, value_at}
 use Rattle.lt_language.specs.Commands.{Command, put, delete, get, stat, bad}
 use Rattle.lt_language.specs.Machine.{State, Step, Run, found, taken, accepted}
 use Rattle.lt_language.specs.Replies as replies
@@ -54,7 +53,7 @@ ok_count-cons r rs = sum_by-cons (λ x. cond (is_ok x) 1 0) r rs
 pub ok_count-append : (xs ys : List Reply) → ok_count (xs ++ ys) ≡ ok_count xs + ok_count ys
 ok_count-append xs ys = sum_by-append (λ x. cond (is_ok x) 1 0) xs ys
 
-found-not : (v : Option (List ℕ)) → is_ok (found v) ≡ false
+pub found-not : (v : Option (List ℕ)) → is_ok (found v) ≡ false
 found-not None = refl
 found-not (Some v) = refl
 

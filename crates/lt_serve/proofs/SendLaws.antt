@@ -1,11 +1,11 @@
 -- Giving settled text to a sink, call by call.
 use Rattle.std.proofs.Common.{◌≡◌, ℕ, ◌+◌, ◌-◌, ◌≤◌, sym, ap, subst, ◌∙◌, List, [], ◌++◌, length, take, drop, length-drop, take-add, arith}
 use Rattle.std.proofs.lemmas.List.{drop-drop}
-use Rattle.lt_io.specs.Sink.{Gains}
+use Rattle.lt_io.specs.Streams.{Gains}
 use Rattle.lt_io.proofs.Flows.{Gains-none, Gains-more}
 use Rattle.lt_line.specs.Waiting.{Waiting, without_front}
 use Rattle.lt_serve.specs.Sending.{Sends}
-use Rattle.lt_serve.specs.Serving.{GainsSome}
+use Rattle.lt_serve.specs.Promise.{GainsSome}
 
 pub sends-none : (stands : List ℕ → Type 0) (waiting : Waiting) → Sends 0 stands stands waiting waiting
 sends-none stands waiting = record {

@@ -1,7 +1,7 @@
 -- What is shown of the text of some replies, and which of them it acknowledges.
 use Rattle.std.proofs.Common.{◌≡◌, ℕ, ◌+◌, ◌-◌, ◌≤◌, subst, List, [], ◌∷◌, ◌++◌, length, length-append, nat_le, inl, inr, arith}
 use Rattle.std.proofs.lemmas.Bool.{cases_Bool, leb-true}
-use Rattle.lt_language.specs.Lines.{line_feed}
+use Rattle.lt_language.specs.Commands.{line_feed}
 use Rattle.lt_language.specs.Replies.{Reply, text, texts, words_of}
 use Rattle.lt_serve.specs.Runs.{ok_count}
 use Rattle.lt_serve.specs.Promise.{acknowledged}

@@ -1,9 +1,9 @@
 -- Stores that are as large, and a get that stops in one of them.
-use Rattle.std.proofs.Common.{◌≡◌, ℕ, refl, ◌∙◌, ap, Some}
+use Rattle.std.proofs.Common.{◌≡◌, ℕ, refl, ◌∙◌, ap}
 use Rattle.std.specs.Option.{ForSome}
 use Rattle.lt_device.specs.State as told
 use Rattle.lt_format.specs.Layout.{blocks_needed}
-use Rattle.lt_image.specs.Opening.{Opened, open_image}
+use Rattle.lt_image.specs.Versions.{Opened, open_image}
 use Rattle.lt_store.specs.Open.{SameRegions, StoreView, extents_of}
 use Rattle.lt_store.specs.Reading.{Reads}
 use Rattle.lt_serve.specs.Promise.{FoundByGet, StopsSomeGet}

@@ -4,15 +4,14 @@ use Rattle.std.proofs.Math.Seq.{take-length}
 use Rattle.lt_terms.specs.Causes.{RoseBy, next_count}
 use Rattle.lt_device.specs.State as told
 use Rattle.lt_device.proofs.Runs.{begins}
-use Rattle.lt_io.specs.Source.{Takes, IsAtEnd, IsFrontOf, pieces_after}
-use Rattle.lt_io.specs.Sink.{Gains}
+use Rattle.lt_io.specs.Streams.{Takes, IsAtEnd, IsFrontOf, pieces_after, Gains}
 use Rattle.lt_io.proofs.Flows.{Takes-none, Takes-more, Gains-none}
-use Rattle.lt_image.specs.Opening.{open_image}
+use Rattle.lt_image.specs.Versions.{open_image}
 use Rattle.lt_image.specs.Standing.{after_writes}
 use Rattle.lt_image.proofs.KeptLaws.{no_writes}
 use Rattle.lt_image.proofs.PrefixLaws.{prefix-none}
 use Rattle.lt_language.specs.declared.Bad.TheVariants.{End}
-use Rattle.lt_language.specs.Lines.{rest_of}
+use Rattle.lt_language.specs.Commands.{rest_of}
 use Rattle.lt_language.specs.Machine.{State}
 use Rattle.lt_language.specs.Replies as replies
 use Rattle.lt_language.specs.Replies.{text}

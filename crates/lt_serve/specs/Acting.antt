@@ -1,16 +1,21 @@
 -- What a command makes of the store, of the device and of the replies that wait.
-use Rattle.std.specs.Prelude.{◌≡◌, ℕ, ◌≤◌, Bool, true, false, ◌||◌, List, [], ◌∷◌, take, length}
+use Rattle.std.specs.Prelude.{◌≡◌, ℕ, ◌≤◌, Bool, true, false, ◌||◌, List, [], ◌∷◌, take, length, Result, Ok, Err, Some}
 use Rattle.lt_terms.specs.Items.{Item}
 use Rattle.lt_device.specs.Moments.{Leaves}
 use Rattle.lt_device.specs.State as told
 use Rattle.lt_image.specs.Standing.{after_writes}
+use Rattle.lt_language.specs.declared.Bad.{Bad}
+use Rattle.lt_language.specs.Commands as commands
 use Rattle.lt_language.specs.Commands.{Command}
+use Rattle.lt_language.specs.Valid.{IsWithinLimits}
 use Rattle.lt_language.specs.Machine.{State}
 use Rattle.lt_language.specs.Replies.{Reply, text}
 use Rattle.lt_line.specs.Waiting.{Waiting, with_text, all_settled}
 use Rattle.lt_serve.specs.declared.faults.RoundFault.{RoundFault}
 use Rattle.lt_serve.specs.declared.faults.RoundFault.TheVariants as faults
 use Rattle.lt_serve.specs.Faults.{IsLost}
+use Rattle.lt_store.specs.declared.acting.EventView.{EventView}
+use Rattle.lt_store.specs.Acting.{MayAct, command_of}
 use Rattle.lt_store.specs.Going.{Goes, Survives}
 use Rattle.lt_store.specs.Open.{StoreView, extents_of, state_of}
 use Rattle.lt_store.specs.Promise.{IsRooted, Rests}
@@ -59,3 +64,8 @@ pub record Answered (v : StoreView) (durable : State) (command : Command) (wrote
   pub wrote_is : wrote ≡ (wrote0 || is_ok reply)
   pub fits : length (text reply) ≤ waiting0.room
   pub told : waiting ≡ settled_unless wrote (with_text waiting0 (text reply))
+
+-- the event is the command's, and it may be acted where the command keeps to its limits; a refused line is no event
+abbrev pub IsEventOf : Command → Result EventView Bad → Type 0
+IsEventOf command (Ok event) = (command_of event ≡ Some command) × (IsWithinLimits command → MayAct event)
+IsEventOf command (Err kind) = command ≡ commands.bad kind

@@ -1,4 +1,5 @@
 pub mod Acting
+pub mod Calls
 pub mod Ends
 pub mod Faults
 pub mod Idle
@@ -6,6 +7,7 @@ pub mod Outcomes
 pub mod Promise
 pub mod Rounds
 pub mod Runs
+pub mod Seeing
 pub mod Sending
 pub mod Serving
 pub mod Sizes

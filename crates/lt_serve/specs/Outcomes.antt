@@ -1,6 +1,7 @@
 -- The text of an outcome.
 use Rattle.std.specs.Prelude.{◌≡◌, ℕ, ◌≤◌, Bool, true, false, List, [], Option, Some, None, length}
 use Rattle.lt_language.specs.Replies.{Reply, text}
+use Rattle.lt_line.specs.Waiting.{Waiting, with_text}
 use Rattle.lt_store.specs.declared.acting.Outcome.{Outcome}
 use Rattle.lt_store.specs.declared.acting.Outcome.TheVariants as outcomes
 use Rattle.lt_store.specs.declared.writing.Taken.TheVariants.{Ok}
@@ -28,3 +29,8 @@ outcome_text outcome value = reply_text (reply_of outcome value)
 abbrev pub is_taken : Outcome → Bool
 is_taken (outcomes.Taken Ok) = true
 is_taken outcome = false
+
+-- the text was added behind what waits, and it is no longer than the text of a reply may be
+pub record Adds (waiting0 waiting : Waiting) (added : List ℕ) : Type 0 where
+  pub text : waiting ≡ with_text waiting0 added
+  pub short : length added ≤ most_text

@@ -1,8 +1,15 @@
 -- What serving promises: which lines were acted, what was answered and shown, and what the device may hold.
+use Rattle.std.specs.Prelude.{◌⊎◌, Result}
 use Rattle.std.specs.Prelude.{◌≡◌, ℕ, ◌+◌, ◌-◌, Bool, true, false, List, [], ◌∷◌, length, nat_le, if◌then◌else◌}
 use Rattle.std.specs.Prelude.{◌≤◌, ◌++◌, take, Option, Some, Ok, Err}
+use Rattle.lt_htable.specs.declared.faults.LookFault.{LookFault}
+use Rattle.lt_htable.specs.declared.faults.LookFault.TheVariants.{Damaged}
+use Rattle.lt_store.specs.Promise.{RepliesSeen}
+use Rattle.lt_language.specs.Commands.{get, put, delete, Command, commands, ended}
+use Rattle.lt_device.specs.declared.device.Device.{Ghosts as Devices}
+use Rattle.lt_io.specs.declared.sink.Sink.{Ghosts as Sinks}
+use Rattle.lt_io.specs.declared.source.Source.{Ghosts as Sources}
 use Rattle.lt_terms.specs.Items.{Item}
-use Rattle.lt_language.specs.Commands.{Command, commands, ended}
 use Rattle.lt_language.specs.Machine.{State, Run, accepted}
 use Rattle.lt_language.specs.Replies as replies
 use Rattle.lt_language.specs.Replies.{Reply, text, texts}
@@ -13,13 +20,12 @@ use Rattle.lt_terms.specs.Bytes.{Image}
 use Rattle.lt_terms.specs.Causes.{Rose}
 use Rattle.lt_device.specs.Moments.{Leaves, MayLeave}
 use Rattle.lt_device.specs.State as told
-use Rattle.lt_io.specs.Sink.{Gains}
-use Rattle.lt_io.specs.Source.{Takes, IsAtEnd}
-use Rattle.lt_language.specs.Lines.{lines_of}
-use Rattle.lt_store.specs.Promise.{IsRooted, Rests, StopsGet}
+use Rattle.lt_io.specs.Streams.{Gains, Takes, IsAtEnd}
+use Rattle.lt_language.specs.Commands.{lines_of}
+use Rattle.lt_store.specs.Promise.{IsReplyTo, IsRooted, Rests, StopsGet}
 use Rattle.lt_format.specs.declared.geometry.Geometry.{Geometry}
-use Rattle.lt_format.specs.Naming.{Named}
-use Rattle.lt_image.specs.Opening.{Opened, open_image}
+use Rattle.lt_format.specs.Snapshot.{Named}
+use Rattle.lt_image.specs.Versions.{Opened, open_image}
 
 -- in a store of e extents the commands were answered so from this state on, and these are the writes that were taken
 pub record Runs (e : ℕ) (start : State) (commands : List Command) (replies : List Reply)
@@ -137,6 +143,35 @@ pub record TurnedOver (e : ℕ) (before : State) (status : Served) (input output
   pub at_end : status ≡ served.Done → IsAtEnd left
   pub over : SteppedOver e before status (input ++ taken) output stands0 stands faults0 faults start new
 
+-- the sink took some bytes
+pub record GainsSome (stands0 stands : List ℕ → Type 0) : Type 0 where
+  pub shown : List ℕ
+  pub gained : Gains stands0 stands shown
+
+-- the count of the source's faults never falls, and rose where the source failed
+pub record TakesFrom {S : Type 0} (u : Sources S) (failed : Type 0) (old new : S) : Type 0 where
+  pub later : u.faults old ≤ u.faults new
+  pub cause : failed → Rose (u.faults old) (u.faults new)
+
+-- the sink took some bytes, and the count of its faults never falls, and rose where the sink failed
+pub record GivesTo {K : Type 0} (k : Sinks K) (failed : Type 0) (old new : K) : Type 0 where
+  pub gains : GainsSome (k.stands old) (k.stands new)
+  pub later : k.faults old ≤ k.faults new
+  pub cause : failed → Rose (k.faults old) (k.faults new)
+
+-- the count of the device's faults never falls, and rose where the device failed
+pub record FailsOn {D : Type 0} (d : Devices D) (failed : Type 0) (old new : D) : Type 0 where
+  pub later : d.faults old ≤ d.faults new
+  pub cause : failed → Rose (d.faults old) (d.faults new)
+
+-- A store of e extents that stands for `before` was served until this status, from nothing taken and nothing shown;
+-- and the status names no damaged block.
+abbrev pub ServesFrom : {S K D : Type 0} → Sources S → Sinks K → Devices D → ℕ → State → Served → S → S → K → K → D
+    → D → Type 0
+ServesFrom u k d e before status source0 source sink0 sink old new = IsSound status
+    × TurnedOver e before status [] [] (u.left source0) (u.left source) (k.stands sink0) (k.stands sink)
+    (k.faults sink0) (k.faults sink) (d.state old) (d.state new)
+
 -- the device tells its blocks, and opening them stops at this one
 pub record FailsToOpen (device : told.State) (block : ℕ) : Type 0 where
   pub image : Image
@@ -166,3 +201,63 @@ pub record FoundByGet (old : told.State) (block : ℕ) (now : told.State) : Type
   pub opened : (image : Image) (opened : Opened) → old.shown ≡ Some image → open_image image ≡ Ok opened
       → (geometry ≡ opened.named.geometry) × (extents ≡ opened.named.manifest.header.extents)
   pub get : StopsSomeGet geometry extents block now
+
+-- what is seen of each key on some blocks: its newest item, or none, or the block that spells no bucket
+abbrev pub Sight : Type 0
+Sight = List ℕ → Result (Option Item) LookFault
+
+-- the reply to a get tells what is seen of its key, which no reply does of a damaged block; any other reply is of its
+-- command's kind
+abbrev pub IsSeenReply : Sight → Command → Reply → Type 0
+IsSeenReply sight (get key) reply = RepliesSeen (sight key) (Some reply)
+IsSeenReply sight command reply = IsReplyTo command reply
+
+-- there is such a reply to each of the commands
+abbrev pub AreSeen : Sight → List Command → List Reply → Type 0
+AreSeen sight [] [] = Unit {0}
+AreSeen sight (command ∷ commands) (reply ∷ replies) = IsSeenReply sight command reply × AreSeen sight commands replies
+AreSeen sight commands replies = ⊥
+
+-- the bytes begin with the text of an `OK`
+pub record BeginsWithOk (bytes : List ℕ) : Type 0 where
+  pub more : List ℕ
+  pub is : bytes ≡ text replies.ok ++ more
+
+-- the next command is a get of a key that stops at this block, or a write
+abbrev pub StopsNext : Sight → List Command → ℕ → Type 0
+StopsNext sight (get key ∷ rest) block = sight key ≡ Err (Damaged block)
+StopsNext sight (put key value ∷ rest) block = Unit {0}
+StopsNext sight (delete key ∷ rest) block = Unit {0}
+StopsNext sight commands block = ⊥
+
+-- the next command is a write
+abbrev pub WritesNext : List Command → Type 0
+WritesNext (put key value ∷ rest) = Unit {0}
+WritesNext (delete key ∷ rest) = Unit {0}
+WritesNext commands = ⊥
+
+-- First commands of the ended input have the replies that their keys are seen by, and the output is a front of the
+-- text of these replies and what stands behind it. That begins with the `OK` of the next command, a write, and from
+-- there on nothing is said; or it is empty. Then at the end of input all commands were answered, and where a block is
+-- named as damaged, the next command is a get that stops at it, or a write.
+pub record AnswersSeen (sight : Sight) (status : Served) (input output : List ℕ) : Type 0 where
+  pub acted : List Command
+  pub others : List Command
+  pub order : acted ++ others ≡ ended input
+  pub replies : List Reply
+  pub answers : AreSeen sight acted replies
+  pub hidden : List ℕ
+  pub further : List ℕ
+  pub text : output ++ hidden ≡ texts replies ++ further
+  pub ends : (BeginsWithOk further × WritesNext others)
+      ⊎ ((further ≡ []) × (status ≡ served.Done → (others ≡ []) × (hidden ≡ []))
+      × ((b : ℕ) → status ≡ served.Damaged b → StopsNext sight others b))
+
+-- what was taken of the source was answered by what is seen of the keys, and the sink took these answers
+pub record ServesSeen (sight : Sight) (status : Served) (left0 left : Option (List ℕ))
+    (stands0 stands : List ℕ → Type 0) : Type 0 where
+  pub taken : List ℕ
+  pub takes : Takes left0 left taken
+  pub shown : List ℕ
+  pub gained : Gains stands0 stands shown
+  pub seen : AnswersSeen sight status taken shown

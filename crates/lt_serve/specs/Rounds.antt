@@ -1,12 +1,15 @@
 -- What a round makes of the lines of a piece.
+use Rattle.std.specs.Bool.{IsFalse}
+use Rattle.lt_device.specs.declared.device.Device.{Ghosts}
+use Rattle.lt_serve.specs.declared.session.Session.{Session}
+use Rattle.lt_serve.specs.View.{kept_in, store_in}
 use Rattle.std.specs.Prelude.{◌≡◌, ◌≢◌, ℕ, ◌+◌, ◌-◌, ◌<◌, ◌≤◌, Bool, true, false, List, [], ◌∷◌, ◌++◌, map, take}
 use Rattle.std.specs.Prelude.{length}
 use Rattle.lt_terms.specs.Items.{Item}
 use Rattle.lt_device.specs.Moments.{Leaves}
 use Rattle.lt_device.specs.State as told
 use Rattle.lt_image.specs.Standing.{IsPrefix, after_writes}
-use Rattle.lt_language.specs.Commands.{Command, command_of, commands}
-use Rattle.lt_language.specs.Lines.{lines_of, rest_of}
+use Rattle.lt_language.specs.Commands.{Command, command_of, commands, lines_of, rest_of, has_line_feed}
 use Rattle.lt_language.specs.Machine.{State}
 use Rattle.lt_language.specs.Replies.{Reply, texts}
 use Rattle.lt_line.specs.Held.{HeldLine, kept_of}
@@ -68,23 +71,6 @@ pub record Round (e : ℕ) (durable : State) (bytes kept : List ℕ) (waiting0 w
   -- where no write was taken, the device is as before
   pub quiet : writes ≡ [] → new ≡ old
 
--- A round whose writes are durable, and whose replies are not settled yet but for those before its first write.
-pub record Committed (e : ℕ) (durable : State) (bytes kept : List ℕ) (waiting0 waiting : Waiting) (w : StoreView)
-    (old new : told.State) : Type 0 where
-  pub replies : List Reply
-  pub writes : List Item
-  pub runs : Runs e durable (commands bytes) replies writes
-  pub line : kept ≡ kept_of (rest_of bytes)
-  pub fits : length (texts replies) ≤ waiting0.room
-  pub told : all_text waiting ≡ waiting0.settled_text ++ texts replies
-  pub room : waiting.room ≡ waiting0.room - length (texts replies)
-  pub opened : IsOpen w (after_writes durable writes) new
-  pub since : Leaves (λ left. IsPrefix left durable writes 0) old new
-  -- each image since names the root alone
-  pub rooted : Leaves IsRooted old new
-  -- where no write was taken, the device is as before
-  pub quiet : writes ≡ [] → new ≡ old
-
 -- The event of a line failed: the line that is held is one of the bytes' lines, and those before it were acted.
 pub record AtLine (bytes kept : List ℕ) (acted : List Command) : Type 0 where
   pub before : List (List ℕ)
@@ -128,3 +114,61 @@ pub record Stopped (e : ℕ) (durable : State) (bytes : List ℕ) (held : HeldLi
   -- no block is damaged; and where memory was short the device is at rest
   pub lost : IsLost fault
   pub rests : fault ≡ faults.NoMemory → (sure : ℕ) × Rests (after_writes durable (take sure writes)) new
+
+-- So many bytes of a piece were taken: one at least, unless it is empty, and all, unless less room is left than a reply
+-- may need.
+pub record TakesFront (n : ℕ) (piece : List ℕ) (room : ℕ) : Type 0 where
+  pub within : n ≤ length piece
+  pub some : 0 < length piece → 0 < n
+  pub enough : n < length piece → room < most_text
+
+-- a round is under way: the session is not to be used, its store is up, and it holds no line that has ended
+pub record IsActing (s : Session) : Type 0 where
+  pub down : s.is_up ≡ false
+  pub up : s.store.is_up ≡ true
+  pub open_line : s.lines.is_ended ≡ false
+
+-- a round begins: no write was taken yet, all writes are durable, and all text that waits is settled
+pub record BeginsRound (s : Session) (waiting : Waiting) : Type 0 where
+  pub acting : IsActing s
+  pub durable : (store_in s).log.pending ≡ []
+  pub none : s.wrote ≡ false
+  pub settled : waiting.pending_text ≡ []
+
+-- behind the line that the session has begun, on a device that its store is open on, these bytes are a round's
+abbrev pub ServesLines : {D : Type 0} → Ghosts D → Session → Session → List ℕ → Waiting → Waiting → D → D → Type 0
+ServesLines d s t bytes waiting0 waiting old new = (durable : State) (line : List ℕ)
+    → IsOpen (store_in s) durable (d.state old) → IsFalse (has_line_feed line) → kept_in s ≡ kept_of line
+    → Round (extents_of (store_in s)) durable (line ++ bytes) (kept_in t) waiting0 waiting (store_in t) (d.state old)
+    (d.state new)
+
+-- behind the line that the session has begun, on a device that its store is open on, a round failed in these bytes
+abbrev pub StopsInLines : {D : Type 0} → Ghosts D → Session → Session → List ℕ → RoundFault → Waiting → Waiting → D
+    → D → Type 0
+StopsInLines d s t bytes fault waiting0 waiting old new = (durable : State) (line : List ℕ)
+    → IsOpen (store_in s) durable (d.state old) → IsFalse (has_line_feed line) → kept_in s ≡ kept_of line
+    → Stopped (extents_of (store_in s)) durable (line ++ bytes) t.lines fault waiting0 waiting.settled_text
+    (d.state old) (d.state new)
+
+-- behind the line that the session has begun, on a device that its store is open on, these bytes were acted
+abbrev pub ActsLines : {D : Type 0} → Ghosts D → Session → Session → List ℕ → Waiting → Waiting → D → D → Type 0
+ActsLines d s t bytes waiting0 waiting old new = (durable : State) (line : List ℕ)
+    → IsOpen (store_in s) durable (d.state old) → IsFalse (has_line_feed line) → kept_in s ≡ kept_of line
+    → Went (store_in s) durable (line ++ bytes) (kept_in t) t.wrote waiting0 waiting (store_in t) (d.state old)
+    (d.state new)
+
+-- from wherever a round has got to, it goes on by these bytes
+abbrev pub ActsFurther : {D : Type 0} → Ghosts D → Session → Session → List ℕ → Waiting → Waiting → D → D → Type 0
+ActsFurther d s t bytes now waiting old new = (v : StoreView) (durable : State) (before : List ℕ) (waiting0 : Waiting)
+    (start : told.State) → IsOpen v durable start → extents_of (store_in s) ≡ extents_of v
+    → Went v durable before (kept_in s) s.wrote waiting0 now (store_in s) start (d.state old)
+    → Went v durable (before ++ bytes) (kept_in t) t.wrote waiting0 waiting (store_in t) start (d.state new)
+
+-- from wherever a round has got to, it fails in these bytes
+abbrev pub StopsFurther : {D : Type 0} → Ghosts D → Session → Session → List ℕ → RoundFault → Waiting → Waiting → D
+    → D → Type 0
+StopsFurther d s t bytes fault now waiting old new = (v : StoreView) (durable : State) (before : List ℕ)
+    (waiting0 : Waiting) (start : told.State) → IsOpen v durable start → extents_of (store_in s) ≡ extents_of v
+    → v.log.pending ≡ []
+    → Went v durable before (kept_in s) s.wrote waiting0 now (store_in s) start (d.state old)
+    → Stopped (extents_of v) durable (before ++ bytes) t.lines fault waiting0 waiting.settled_text start (d.state new)

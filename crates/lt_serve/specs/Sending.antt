@@ -1,6 +1,6 @@
 -- Giving settled text to a sink.
 use Rattle.std.specs.Prelude.{◌≡◌, ℕ, ◌≤◌, List, take, length}
-use Rattle.lt_io.specs.Sink.{Gains}
+use Rattle.lt_io.specs.Streams.{Gains}
 use Rattle.lt_line.specs.Waiting.{Waiting, without_front}
 
 -- the sink took so many bytes of the settled text, and these were dropped

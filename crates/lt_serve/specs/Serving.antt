@@ -1,19 +1,25 @@
 -- What serving has reached: which lines were acted, what was answered, and how much of it is shown.
-use Rattle.std.specs.Prelude.{◌≡◌, ℕ, List, [], ◌++◌, Option}
+use Rattle.lt_device.specs.declared.device.Device.{Ghosts as Devices}
+use Rattle.lt_io.specs.declared.sink.Sink.{Ghosts as Sinks}
+use Rattle.lt_io.specs.declared.source.Source.{Ghosts as Sources}
+use Rattle.lt_serve.specs.declared.served.Served.{Served}
+use Rattle.lt_serve.specs.declared.session.Session.{Session}
+use Rattle.lt_serve.specs.Faults.{IsHalt}
+use Rattle.lt_serve.specs.View.{kept_in, store_in}
+use Rattle.std.specs.Prelude.{◌≡◌, ◌≤◌, ℕ, true, List, [], ◌++◌, Option}
 use Rattle.lt_terms.specs.Items.{Item}
 use Rattle.lt_device.specs.Moments.{Leaves}
 use Rattle.lt_device.specs.State as told
 use Rattle.lt_image.specs.Standing.{IsPrefix, after_writes}
-use Rattle.lt_io.specs.Sink.{Gains}
-use Rattle.lt_io.specs.Source.{Takes}
-use Rattle.lt_language.specs.Commands.{commands}
-use Rattle.lt_language.specs.Lines.{rest_of}
+use Rattle.lt_io.specs.Streams.{Gains, Takes}
+use Rattle.lt_language.specs.Commands.{commands, rest_of}
 use Rattle.lt_language.specs.Machine.{State}
 use Rattle.lt_language.specs.Replies.{Reply, texts}
 use Rattle.lt_line.specs.Held.{kept_of}
-use Rattle.lt_store.specs.Open.{StoreView, IsOpen}
+use Rattle.lt_line.specs.Waiting.{Waiting, nothing_waits}
+use Rattle.lt_store.specs.Open.{StoreView, IsOpen, blocks_of, extents_of}
 use Rattle.lt_store.specs.Promise.{IsRooted}
-use Rattle.lt_serve.specs.Promise.{Runs}
+use Rattle.lt_serve.specs.Promise.{IsSound, Runs, SteppedOver, TurnedOver}
 
 -- A store of e extents that stood for `before`: all lines of the input were acted, this is the text of their
 -- replies, and all writes that were taken are durable.
@@ -31,11 +37,6 @@ pub record Reached (e : ℕ) (before : State) (input output kept : List ℕ) (w 
   -- where no write was taken, the device is as before
   pub quiet : writes ≡ [] → new ≡ old
 
--- the sink took some bytes
-pub record GainsSome (stands0 stands : List ℕ → Type 0) : Type 0 where
-  pub shown : List ℕ
-  pub gained : Gains stands0 stands shown
-
 -- a call that gave bytes to the sink, and goes on
 pub record SteppedOn (e : ℕ) (before : State) (input output kept : List ℕ) (w : StoreView) (stands0 stands : List ℕ
     → Type 0) (start new : told.State) : Type 0 where
@@ -49,3 +50,40 @@ pub record TurnedOn (e : ℕ) (before : State) (input output kept : List ℕ) (w
   pub taken : List ℕ
   pub takes : Takes left0 left taken
   pub on : SteppedOn e before (input ++ taken) output kept w stands0 stands start new
+
+-- A session between two rounds: it is up, no reply waits, and its store fits on a device of so many blocks.
+pub record IsReady (s : Session) (waiting : Waiting) (blocks : ℕ) : Type 0 where
+  pub up : s.is_up ≡ true
+  pub none : waiting ≡ nothing_waits
+  pub within : blocks_of (store_in s) ≤ blocks
+
+-- from wherever serving has got to, it goes on by these bytes
+abbrev pub GoesOnBy : {D K : Type 0} → Devices D → Sinks K → Session → Session → List ℕ → K → K → D → D → Type 0
+GoesOnBy d k s t bytes sink0 sink old new = (before : State) (input output : List ℕ) (start : told.State)
+    → Reached (extents_of (store_in s)) before input output (kept_in s) (store_in s) start (d.state old)
+    → SteppedOn (extents_of (store_in s)) before (input ++ bytes) output (kept_in t) (store_in t) (k.stands sink0)
+    (k.stands sink) start (d.state new)
+
+-- from wherever serving has got to, it ends in these bytes
+abbrev pub EndsIn : {D K : Type 0} → Devices D → Sinks K → Session → Served → List ℕ → K → K → D → D → Type 0
+EndsIn d k s status bytes sink0 sink old new = (before : State) (input output : List ℕ) (start : told.State)
+    → Reached (extents_of (store_in s)) before input output (kept_in s) (store_in s) start (d.state old)
+    → IsHalt status × SteppedOver (extents_of (store_in s)) before status (input ++ bytes) output (k.stands sink0)
+    (k.stands sink) (k.faults sink0) (k.faults sink) start (d.state new)
+
+-- from wherever serving has got to, it goes on by what was taken of the source
+abbrev pub TurnsOn : {S K D : Type 0} → Sources S → Sinks K → Devices D → Session → Session → S → S → K → K → D → D
+    → Type 0
+TurnsOn u k d s t source0 source sink0 sink old new = (before : State) (input output : List ℕ) (start : told.State)
+    → Reached (extents_of (store_in s)) before input output (kept_in s) (store_in s) start (d.state old)
+    → TurnedOn (extents_of (store_in s)) before input output (kept_in t) (store_in t) (u.left source0) (u.left source)
+    (k.stands sink0) (k.stands sink) start (d.state new)
+
+-- from wherever serving has got to, it ends in what was taken of the source, and no block is damaged
+abbrev pub TurnsOver : {S K D : Type 0} → Sources S → Sinks K → Devices D → Session → Served → S → S → K → K → D → D
+    → Type 0
+TurnsOver u k d s status source0 source sink0 sink old new = (before : State) (input output : List ℕ)
+    (start : told.State)
+    → Reached (extents_of (store_in s)) before input output (kept_in s) (store_in s) start (d.state old)
+    → IsSound status × TurnedOver (extents_of (store_in s)) before status input output (u.left source0)
+    (u.left source) (k.stands sink0) (k.stands sink) (k.faults sink0) (k.faults sink) start (d.state new)

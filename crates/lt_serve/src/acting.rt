@@ -1,23 +1,20 @@
 //! Acting a command: the store's event, and the text of its reply, which is not settled.
 
-ghost use Rattle.std.specs.Prelude.{◌≡◌, ℕ, ◌≤◌, true, Some, IfErr, IfOk, IsErrOf, OnErr, OnOk, take};
-ghost use Rattle.lt_terms.specs.Causes.{Rose};
-ghost use Rattle.lt_language.specs.Commands.{Command as AskedCommand};
+ghost use Rattle.std.specs.Prelude.{◌≡◌, ℕ, ◌≤◌, true, IfErr, IfOk, IsErrOf, OnErr, OnOk, take};
 ghost use Rattle.lt_language.specs.Machine.{State};
 ghost use Rattle.lt_language.specs.Valid.{IsWithinLimits};
 ghost use Rattle.lt_line.specs.View.{view_of as command_in};
-ghost use Rattle.lt_store.specs.Acting.{MayAct, command_of};
-ghost use Rattle.lt_store.specs.Open.{IsOpen, blocks_of, extents_of};
+ghost use Rattle.lt_store.specs.Open.{IsOpen, blocks_of};
 ghost use Rattle.lt_store.specs.View.{view_of};
-ghost use Rattle.lt_serve.specs.Promise.{StopsSomeGet};
-ghost use Rattle.lt_serve.specs.Sizes.{SameSizes};
-ghost use Rattle.lt_serve.specs.Acting.{Answers, Lost};
+ghost use Rattle.lt_serve.specs.Acting.{Answers, IsEventOf, Lost};
+ghost use Rattle.lt_serve.specs.Calls.{ActsOn};
 ghost use Rattle.lt_serve.specs.Faults.{round_fault_of};
 ghost use Rattle.lt_serve.specs.Outcomes.{HasValue, is_taken, most_text};
+ghost use Rattle.lt_serve.specs.Seeing.{StopsAt, Tells};
 
 use crate::outcomes::{add_bad, add_outcome};
 use lt_device::Device;
-use lt_line::{Command, Replies};
+use lt_line::{Bad, Command, Replies};
 use lt_page::Page;
 use lt_store::{EventView, Outcome, Store, Taken, WriteFault};
 use std::alloc::Global;
@@ -36,67 +33,46 @@ pub(super) fn act_command<D: Device>(
     requires within { blocks_of (view_of store.old) ≤ D.blocks device.old }
     requires room { most_text ≤ out.old.room }
 
-    ensures ok { IfOk result (λ taken. (durable : State) → IsOpen (view_of store.old) durable (D.state device.old)
-        → Answers (view_of store.old) durable (command_in command.now) taken out.old out.new (view_of store.new)
-        (D.state device.old) (D.state device.new)) }
-    ensures err { IfErr result (λ fault. (durable : State) → IsOpen (view_of store.old) durable (D.state device.old)
+    ensures ok { IfOk result (λ taken. (durable : State)
+        → IsOpen (view_of store.old) durable (D.state device.old)
+        → Answers (view_of store.old) durable (command_in command.now) taken out.old out.new
+        (view_of store.new) (D.state device.old) (D.state device.new)) }
+    ensures err { IfErr result (λ fault. (durable : State)
+        → IsOpen (view_of store.old) durable (D.state device.old)
         → Lost (view_of store.old) durable (round_fault_of fault) (D.state device.old) (D.state device.new)) }
     ensures untold { OnErr result (out.new ≡ out.old) }
-
     ensures up { OnOk result (store.new.is_up ≡ true) }
-    ensures sizes { OnOk result (SameSizes (view_of store.old) (view_of store.new)) }
-    ensures damaged { (b : ℕ) → IsErrOf result (WriteFault.Damaged b)
-        → StopsSomeGet (view_of store.old).named.geometry (extents_of (view_of store.old)) b (D.state device.new) }
-    ensures cause { IsErrOf result WriteFault.Device → Rose (D.faults device.old) (D.faults device.new) }
-    ensures later { D.faults device.old ≤ D.faults device.new }
-    ensures size { D.blocks device.new ≡ D.blocks device.old }
+    ensures tells { IfOk result (λ taken. Tells (view_of store.old) (command_in command.now) taken
+        out.old out.new (view_of store.new) (D.state device.old) (D.state device.new)) }
+    ensures stops { (b : ℕ) → IsErrOf result (WriteFault.Damaged b)
+        → StopsAt (view_of store.old) (command_in command.now) (D.state device.old) b }
+    ensures device { ActsOn D.Device (view_of store.old) (view_of store.new) result
+        WriteFault.Device WriteFault.Damaged device.old device.new }
 {
-    let event = match command {
-        Command::Put { key, value } => EventView::Put { key, value },
-        Command::Delete { key } => EventView::Delete { key },
-        Command::Get { key } => EventView::Get { key },
-        Command::Stat => EventView::Stat,
-        Command::Bad(kind) => {
-            add_bad(out, *kind);
-            return Ok(false);
+    match event_of(*command) {
+        Ok(event) => {
+            let outcome = store.act(alloc, device, event, value)?;
+            add_outcome(out, &outcome, found(&outcome, value));
+            Ok(is_taken(&outcome))
         }
-    };
-    act_event(store, alloc, device, event, value, out)
+        Err(kind) => {
+            add_bad(out, kind);
+            Ok(false)
+        }
+    }
 }
 
-/// Acts an event that a command is, and adds its reply. Answers whether a write was taken.
-fn act_event<D: Device>(
-    store: &mut Store,
-    alloc: Global,
-    device: &mut D,
-    event: EventView<'_>,
-    value: &mut Page,
-    out: &mut Replies,
-) -> Result<bool, WriteFault>
-    requires up { store.old.is_up ≡ true }
-    requires valid { MayAct event }
-    requires within { blocks_of (view_of store.old) ≤ D.blocks device.old }
-    requires room { most_text ≤ out.old.room }
-
-    ensures ok { IfOk result (λ taken. (command : AskedCommand) (durable : State)
-        → command_of event.entry ≡ Some command → IsOpen (view_of store.old) durable (D.state device.old)
-        → Answers (view_of store.old) durable command taken out.old out.new (view_of store.new) (D.state device.old)
-        (D.state device.new)) }
-    ensures err { IfErr result (λ fault. (durable : State) → IsOpen (view_of store.old) durable (D.state device.old)
-        → Lost (view_of store.old) durable (round_fault_of fault) (D.state device.old) (D.state device.new)) }
-    ensures untold { OnErr result (out.new ≡ out.old) }
-
-    ensures up { OnOk result (store.new.is_up ≡ true) }
-    ensures sizes { OnOk result (SameSizes (view_of store.old) (view_of store.new)) }
-    ensures damaged { (b : ℕ) → IsErrOf result (WriteFault.Damaged b)
-        → StopsSomeGet (view_of store.old).named.geometry (extents_of (view_of store.old)) b (D.state device.new) }
-    ensures cause { IsErrOf result WriteFault.Device → Rose (D.faults device.old) (D.faults device.new) }
-    ensures later { D.faults device.old ≤ D.faults device.new }
-    ensures size { D.blocks device.new ≡ D.blocks device.old }
+/// The event that a command is. A line that is refused is none.
+fn event_of(command: Command<'_>) -> Result<EventView<'_>, Bad>
+    ensures { IsEventOf (command_in command.entry) result }
 {
-    let outcome = store.act(alloc, device, event, value)?;
-    add_outcome(out, &outcome, found(&outcome, value));
-    Ok(is_taken(&outcome))
+    match command {
+        Command::Put { key, value } => Ok(EventView::Put { key, value }),
+        Command::Delete { key } => Ok(EventView::Delete { key }),
+        Command::Get { key } => Ok(EventView::Get { key }),
+        Command::Stat => Ok(EventView::Stat),
+        Command::Bad(kind) => Err(kind),
+    }
 }
 
 /// Whether a write was taken.

@@ -18,6 +18,3 @@ pub use sending::emit;
 pub use served::Served;
 pub use session::Session;
 pub use turns::serve;
-
-#[cfg(test)]
-mod tests;

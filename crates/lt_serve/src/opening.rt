@@ -2,8 +2,7 @@
 
 ghost use Rattle.std.specs.Option.{ForSome};
 ghost use Rattle.std.specs.Prelude.{◌≡◌, ℕ, ◌+◌, ◌*◌, ◌≤◌, true, [], IfOk, IsErrOf};
-ghost use Rattle.lt_terms.specs.Causes.{Rose};
-ghost use Rattle.lt_device.specs.Reads.{CountsAtMost};
+ghost use Rattle.lt_device.specs.Calls.{OnlyReads};
 ghost use Rattle.lt_language.specs.Machine.{State};
 ghost use Rattle.lt_store.specs.Promise.{StopsOpening, Rests};
 ghost use Rattle.lt_store.specs.Open.{IsOpen, blocks_of, extents_of};
@@ -30,22 +29,21 @@ impl Session {
         ensures room { IfOk result (λ session. blocks_of (store_in session) ≤ D.blocks device.new) }
 
         // On a device that tells its blocks the store is what they open as.
-        ensures reads { IfOk result (λ session. ForSome (D.state device.old).shown (Reads (store_in session))) }
+        ensures reads { IfOk result (λ session. ForSome (D.state device.old).shown
+            (Reads (store_in session))) }
 
         // On a device at rest it is open for what the device stands for.
         ensures opened { IfOk result (λ session. (s : State) (r : Rests s (D.state device.old))
             → IsOpen (store_in session) s (D.state device.new)
             × (extents_of (store_in session) ≡ r.rest.named.manifest.header.extents)) }
 
-        ensures damaged { (b : ℕ) → IsErrOf result (OpenFault.Damaged b) → StopsOpening (D.state device.old) b }
+        ensures damaged { (b : ℕ) → IsErrOf result (OpenFault.Damaged b)
+            → StopsOpening (D.state device.old) b }
         ensures at_rest { (s : State) → Rests s (D.state device.old) → (b : ℕ)
             → IsErrOf result (OpenFault.Damaged b) → ⊥ }
-        ensures cause { IsErrOf result OpenFault.Device → Rose (D.faults device.old) (D.faults device.new) }
-        ensures later { D.faults device.old ≤ D.faults device.new }
-        ensures state { D.state device.new ≡ D.state device.old }
-        ensures size { D.blocks device.new ≡ D.blocks device.old }
-        // The most slots and the most extents that there may be.
-        ensures count { CountsAtMost (307 + 2 * 512 + 65536) (D.reads device.old) (D.reads device.new) }
+        // At most for the most slots and the most extents that there may be.
+        ensures calls { OnlyReads D.Device (307 + 2 * 512 + 65536) (IsErrOf result OpenFault.Device)
+            device.old device.new }
     {
         let store = Store::open(alloc, device)?;
         let lines = Lines::new(alloc)?;

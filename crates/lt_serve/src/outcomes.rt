@@ -4,7 +4,7 @@ ghost use Rattle.std.specs.Prelude.{◌≡◌, ◌≤◌, [], length};
 ghost use Rattle.lt_language.specs.Replies as replies;
 ghost use Rattle.lt_language.specs.Replies.{spaced, text};
 ghost use Rattle.lt_line.specs.Waiting.{with_text};
-ghost use Rattle.lt_serve.specs.Outcomes.{HasValue, most_text, outcome_text};
+ghost use Rattle.lt_serve.specs.Outcomes.{Adds, HasValue, most_text, outcome_text};
 
 use itoa::Buffer;
 use lt_line::{Bad, Replies};
@@ -14,8 +14,7 @@ use lt_store::{Outcome, Stat, Taken};
 pub fn add_outcome(out: &mut Replies, outcome: &Outcome, value: &[u8])
     requires room { most_text ≤ out.old.room }
     requires value { HasValue outcome.now value.now }
-    ensures text { out.new ≡ with_text out.old (outcome_text outcome.now value.now) }
-    ensures short { length (outcome_text outcome.now value.now) ≤ most_text }
+    ensures { Adds out.old out.new (outcome_text outcome.now value.now) }
 {
     match outcome {
         Outcome::Taken(taken) => add_taken(out, taken),
@@ -28,8 +27,7 @@ pub fn add_outcome(out: &mut Replies, outcome: &Outcome, value: &[u8])
 
 fn add_taken(out: &mut Replies, taken: &Taken)
     requires room { most_text ≤ out.old.room }
-    ensures text { out.new ≡ with_text out.old (outcome_text (Outcome.Taken taken.now) []) }
-    ensures short { length (outcome_text (Outcome.Taken taken.now) []) ≤ most_text }
+    ensures { Adds out.old out.new (outcome_text (Outcome.Taken taken.now) []) }
 {
     match taken {
         Taken::Ok => out.add(b"OK\n"),
@@ -46,8 +44,7 @@ fn add_taken(out: &mut Replies, taken: &Taken)
 fn add_value(out: &mut Replies, value: &[u8])
     requires room { most_text ≤ out.old.room }
     requires value { length value.now ≤ 3000 }
-    ensures text { out.new ≡ with_text out.old (text (replies.value value.now)) }
-    ensures short { length (text (replies.value value.now)) ≤ most_text }
+    ensures { Adds out.old out.new (text (replies.value value.now)) }
 {
     out.add(b"VALUE ");
     out.add(value);
@@ -56,10 +53,8 @@ fn add_value(out: &mut Replies, value: &[u8])
 
 fn add_stat(out: &mut Replies, stat: &Stat)
     requires room { most_text ≤ out.old.room }
-    ensures text { out.new ≡ with_text out.old (text
-        (replies.stat stat.now.writes stat.now.reads stat.now.tables stat.now.free)) }
-    ensures short { length (text (replies.stat stat.now.writes stat.now.reads stat.now.tables stat.now.free)) ≤
-        most_text }
+    ensures { Adds out.old out.new
+        (text (replies.stat stat.now.writes stat.now.reads stat.now.tables stat.now.free)) }
 {
     out.add(b"STAT");
     add_number(out, stat.writes);
@@ -83,8 +78,7 @@ fn add_number(out: &mut Replies, number: u64)
 /// Adds the refusal of a line.
 pub(super) fn add_bad(out: &mut Replies, kind: Bad)
     requires room { most_text ≤ out.old.room }
-    ensures text { out.new ≡ with_text out.old (text (replies.bad kind)) }
-    ensures short { length (text (replies.bad kind)) ≤ most_text }
+    ensures { Adds out.old out.new (text (replies.bad kind)) }
 {
     out.add(match kind {
         Bad::Long => b"BAD long\n",

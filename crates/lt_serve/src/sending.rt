@@ -15,7 +15,8 @@ pub fn emit<K: Sink>(sink: &mut K, out: &mut Replies) -> Result<(), Failed>
     ensures all { OnOk result (Sends (length out.old.settled_text) (K.stands sink.old)
         (K.stands sink.new) out.old out.new) }
     ensures free { OnOk result (out.old.pending_text ≡ [] → out.new ≡ nothing_waits) }
-    ensures front { OnErr result ((count : ℕ) × Sends count (K.stands sink.old) (K.stands sink.new) out.old out.new) }
+    ensures front { OnErr result ((count : ℕ) × Sends count (K.stands sink.old)
+        (K.stands sink.new) out.old out.new) }
     ensures cause { HasCause (K.faults sink.old) (K.faults sink.new) result }
 {
     while !out.settled().is_empty() {

@@ -1,18 +1,22 @@
 //! The loop over the pieces of the source.
 
-ghost use Rattle.std.specs.Prelude.{◌≡◌, ◌⊎◌, ℕ, ◌+◌, ◌^◌, ◌<◌, ◌≤◌, true, List, [], ◌++◌, length, take, IfErr};
-ghost use Rattle.std.specs.Prelude.{IfOk, IsErrOf, OnErr, OnOk};
-ghost use Rattle.lt_terms.specs.Causes.{Rose, RoseBy, next_count};
+ghost use Rattle.std.specs.Prelude.{◌≡◌, ◌⊎◌, ℕ, ◌+◌, ◌^◌, ◌<◌, ◌≤◌, true, List, []};
+ghost use Rattle.std.specs.Prelude.{length, take, IfErr, IfOk, IsErrOf, Ok, OnOk, Some};
+ghost use Rattle.lt_terms.specs.Causes.{RoseBy, next_count};
 ghost use Rattle.lt_device.specs.State as told;
 ghost use Rattle.lt_language.specs.Machine.{State};
 ghost use Rattle.lt_line.specs.Waiting.{nothing_waits};
-ghost use Rattle.lt_store.specs.Promise.{Rests, StopsOpening};
-ghost use Rattle.lt_store.specs.Open.{IsOpen, blocks_of, extents_of};
-ghost use Rattle.lt_serve.specs.Promise.{FailsToOpen, FoundByGet, IsUnopened, StopsSomeGet, IsSound, SteppedOver};
-ghost use Rattle.lt_serve.specs.Promise.{TurnedOver};
-ghost use Rattle.lt_serve.specs.Faults.{IsEnd, IsHalt, IsStepEnd, IsTurnEnd};
-ghost use Rattle.lt_serve.specs.Serving.{GainsSome, Reached, SteppedOn, TurnedOn};
-ghost use Rattle.lt_serve.specs.Sizes.{SameSizes};
+ghost use Rattle.lt_store.specs.Promise.{Rests, StopsOpening, seen_on};
+ghost use Rattle.lt_store.specs.Open.{IsOpen, StoreView, blocks_of, extents_of};
+ghost use Rattle.lt_serve.specs.Calls.{StopsGetOf, TurnActs};
+ghost use Rattle.lt_serve.specs.Faults.{IsEnd, IsStepEnd, IsTurnEnd};
+ghost use Rattle.lt_serve.specs.Promise.{FailsOn, FailsToOpen, FoundByGet, GivesTo, IsUnopened, ServesFrom};
+ghost use Rattle.lt_serve.specs.Promise.{ServesSeen, SteppedOver, TakesFrom};
+ghost use Rattle.lt_serve.specs.Seeing.{EndsSeen, SeesLines, StaysBehind, StepsOn, StepsOver, TakesOn, TakesOver};
+ghost use Rattle.lt_serve.specs.Serving.{IsReady, Reached};
+ghost use Rattle.lt_terms.specs.Bytes.{Image};
+ghost use Rattle.lt_image.specs.Versions.{Opened, open_image};
+ghost use Rattle.lt_store.specs.Getting.{seen_of};
 ghost use Rattle.lt_serve.specs.View.{kept_in, store_in};
 
 use crate::sending::emit;
@@ -37,39 +41,18 @@ fn step<D: Device, K: Sink>(
     sink: &mut K,
     piece: &[u8],
 ) -> Result<usize, Served>
-    requires up { session.old.is_up ≡ true }
-    requires within { blocks_of (store_in session.old) ≤ D.blocks device.old }
-    requires none { replies.old ≡ nothing_waits }
+    requires ready { IsReady session.old replies.old (D.blocks device.old) }
 
-    ensures on { IfOk result (λ n. (before : State) (input output : List ℕ) (start : told.State)
-        → Reached (extents_of (store_in session.old)) before input output (kept_in session.old)
-        (store_in session.old) start (D.state device.old)
-        → SteppedOn (extents_of (store_in session.old)) before (input ++ take n piece.now) output
-        (kept_in session.new) (store_in session.new) (K.stands sink.old) (K.stands sink.new) start
-        (D.state device.new)) }
-    ensures over { IfErr result (λ status. (before : State) (input output : List ℕ) (start : told.State)
-        → length piece.now ≤ 4096
-        → Reached (extents_of (store_in session.old)) before input output (kept_in session.old)
-        (store_in session.old) start (D.state device.old)
-        → IsHalt status × SteppedOver (extents_of (store_in session.old)) before status (input ++ piece.now) output
-        (K.stands sink.old) (K.stands sink.new) (K.faults sink.old) (K.faults sink.new) start
-        (D.state device.new)) }
-
-    ensures taken { IfOk result (λ n. n ≤ length piece.now) }
-    ensures some { IfOk result (λ n. 0 < length piece.now → 0 < n) }
-    ensures none { OnOk result (replies.new ≡ nothing_waits) }
-    ensures up { OnOk result (session.new.is_up ≡ true) }
-    ensures sizes { OnOk result (SameSizes (store_in session.old) (store_in session.new)) }
-    ensures size { D.blocks device.new ≡ D.blocks device.old }
+    ensures on { IfOk result (λ n. StepsOn D.Device K.Sink session.old session.new
+        (take n piece.now)
+        sink.old sink.new device.old device.new) }
+    ensures over { IfErr result (λ status. length piece.now ≤ 4096
+        → StepsOver D.Device K.Sink session.old status piece.now sink.old sink.new device.old device.new) }
+    ensures taken { IfOk result (λ n. (n ≤ length piece.now) × (0 < length piece.now → 0 < n)) }
+    ensures ready { OnOk result (IsReady session.new replies.new (D.blocks device.new)) }
     ensures halt { IfErr result IsStepEnd }
-    ensures damaged { (b : ℕ) → IsErrOf result (Served.Damaged b)
-        → StopsSomeGet (store_in session.old).named.geometry (extents_of (store_in session.old)) b
-        (D.state device.new) }
-    ensures device_later { D.faults device.old ≤ D.faults device.new }
-    ensures device_cause { IsErrOf result Served.Device → Rose (D.faults device.old) (D.faults device.new) }
-    ensures sink_gains { GainsSome (K.stands sink.old) (K.stands sink.new) }
-    ensures sink_later { K.faults sink.old ≤ K.faults sink.new }
-    ensures sink_cause { IsErrOf result Served.Sink → Rose (K.faults sink.old) (K.faults sink.new) }
+    ensures device { TurnActs D.Device session.old session.new result device.old device.new }
+    ensures sink { GivesTo K.Sink (IsErrOf result Served.Sink) sink.old sink.new }
 {
     match session.round(alloc, device, piece, replies) {
         Ok(taken) => match emit(sink, replies) {
@@ -93,36 +76,17 @@ fn serve_piece<D: Device, K: Sink>(
     sink: &mut K,
     piece: &[u8],
 ) -> Result<(), Served>
-    requires up { session.old.is_up ≡ true }
-    requires within { blocks_of (store_in session.old) ≤ D.blocks device.old }
-    requires none { replies.old ≡ nothing_waits }
+    requires ready { IsReady session.old replies.old (D.blocks device.old) }
     requires short { length piece.now ≤ 4096 }
 
-    ensures on { OnOk result ((before : State) (input output : List ℕ) (start : told.State)
-        → Reached (extents_of (store_in session.old)) before input output (kept_in session.old)
-        (store_in session.old) start (D.state device.old)
-        → SteppedOn (extents_of (store_in session.old)) before (input ++ piece.now) output (kept_in session.new)
-        (store_in session.new) (K.stands sink.old) (K.stands sink.new) start (D.state device.new)) }
-    ensures over { IfErr result (λ status. (before : State) (input output : List ℕ) (start : told.State)
-        → Reached (extents_of (store_in session.old)) before input output (kept_in session.old)
-        (store_in session.old) start (D.state device.old)
-        → IsHalt status × SteppedOver (extents_of (store_in session.old)) before status (input ++ piece.now) output
-        (K.stands sink.old) (K.stands sink.new) (K.faults sink.old) (K.faults sink.new) start
-        (D.state device.new)) }
-
-    ensures none { OnOk result (replies.new ≡ nothing_waits) }
-    ensures up { OnOk result (session.new.is_up ≡ true) }
-    ensures sizes { OnOk result (SameSizes (store_in session.old) (store_in session.new)) }
-    ensures size { D.blocks device.new ≡ D.blocks device.old }
+    ensures on { OnOk result (StepsOn D.Device K.Sink session.old session.new piece.now
+        sink.old sink.new device.old device.new) }
+    ensures over { IfErr result (λ status. StepsOver D.Device K.Sink session.old status piece.now
+        sink.old sink.new device.old device.new) }
+    ensures ready { OnOk result (IsReady session.new replies.new (D.blocks device.new)) }
     ensures halt { IfErr result IsStepEnd }
-    ensures damaged { (b : ℕ) → IsErrOf result (Served.Damaged b)
-        → StopsSomeGet (store_in session.old).named.geometry (extents_of (store_in session.old)) b
-        (D.state device.new) }
-    ensures device_later { D.faults device.old ≤ D.faults device.new }
-    ensures device_cause { IsErrOf result Served.Device → Rose (D.faults device.old) (D.faults device.new) }
-    ensures sink_gains { GainsSome (K.stands sink.old) (K.stands sink.new) }
-    ensures sink_later { K.faults sink.old ≤ K.faults sink.new }
-    ensures sink_cause { IsErrOf result Served.Sink → Rose (K.faults sink.old) (K.faults sink.new) }
+    ensures device { TurnActs D.Device session.old session.new result device.old device.new }
+    ensures sink { GivesTo K.Sink (IsErrOf result Served.Sink) sink.old sink.new }
 {
     let mut at = 0;
     while at < piece.len() {
@@ -138,12 +102,14 @@ fn finish<K: Sink>(session: &mut Session, replies: &mut Replies, sink: &mut K) -
 
     ensures over { (e : ℕ) (before : State) (input output : List ℕ) (start now : told.State)
         → Reached e before input output (kept_in session.old) (store_in session.old) start now
-        → SteppedOver e before result input output (K.stands sink.old) (K.stands sink.new) (K.faults sink.old)
-        (K.faults sink.new) start now }
+        → SteppedOver e before result input output (K.stands sink.old) (K.stands sink.new)
+        (K.faults sink.old) (K.faults sink.new) start now }
+    ensures ends { (v : StoreView) (image : Image) (input output : List ℕ) (start now : told.State)
+        → SeesLines (seen_of v image) input output
+        (StaysBehind input (kept_in session.old) v (store_in session.old) start now)
+        → EndsSeen (seen_of v image) result input output (K.stands sink.old) (K.stands sink.new) }
     ensures end { IsEnd result }
-    ensures sink_gains { GainsSome (K.stands sink.old) (K.stands sink.new) }
-    ensures sink_later { K.faults sink.old ≤ K.faults sink.new }
-    ensures sink_cause { result ≡ Served.Sink → Rose (K.faults sink.old) (K.faults sink.new) }
+    ensures sink { GivesTo K.Sink (result ≡ Served.Sink) sink.old sink.new }
 {
     session.end(replies);
     replies.settle();
@@ -163,40 +129,19 @@ fn turn<S: Source, K: Sink, D: Device>(
     replies: &mut Replies,
     page: &mut Page,
 ) -> Result<(), Served>
-    requires up { session.old.is_up ≡ true }
-    requires within { blocks_of (store_in session.old) ≤ D.blocks device.old }
-    requires none { replies.old ≡ nothing_waits }
+    requires ready { IsReady session.old replies.old (D.blocks device.old) }
 
-    ensures on { OnOk result ((before : State) (input output : List ℕ) (start : told.State)
-        → Reached (extents_of (store_in session.old)) before input output (kept_in session.old)
-        (store_in session.old) start (D.state device.old)
-        → TurnedOn (extents_of (store_in session.old)) before input output (kept_in session.new)
-        (store_in session.new) (S.left source.old) (S.left source.new) (K.stands sink.old)
-        (K.stands sink.new) start (D.state device.new)) }
-    ensures over { IfErr result (λ status. (before : State) (input output : List ℕ) (start : told.State)
-        → Reached (extents_of (store_in session.old)) before input output (kept_in session.old)
-        (store_in session.old) start (D.state device.old)
-        → IsSound status × TurnedOver (extents_of (store_in session.old)) before status input output
-        (S.left source.old) (S.left source.new) (K.stands sink.old) (K.stands sink.new) (K.faults sink.old)
-        (K.faults sink.new) start (D.state device.new)) }
-
-    ensures none { OnOk result (replies.new ≡ nothing_waits) }
-    ensures up { OnOk result (session.new.is_up ≡ true) }
-    ensures sizes { OnOk result (SameSizes (store_in session.old) (store_in session.new)) }
-    ensures size { D.blocks device.new ≡ D.blocks device.old }
+    ensures on { OnOk result (TakesOn S.Source K.Sink D.Device session.old session.new
+        source.old source.new sink.old sink.new device.old device.new) }
+    ensures over { IfErr result (λ status. TakesOver S.Source K.Sink D.Device session.old status
+        source.old source.new sink.old sink.new device.old device.new) }
+    ensures ready { OnOk result (IsReady session.new replies.new (D.blocks device.new)) }
     ensures end { IfErr result IsTurnEnd }
     ensures pieces { OnOk result (S.pieces source.new ≡ next_count (S.pieces source.old)) }
     ensures one_piece { S.pieces source.new ≤ next_count (S.pieces source.old) }
-    ensures damaged { (b : ℕ) → IsErrOf result (Served.Damaged b)
-        → StopsSomeGet (store_in session.old).named.geometry (extents_of (store_in session.old)) b
-        (D.state device.new) }
-    ensures source_later { S.faults source.old ≤ S.faults source.new }
-    ensures source_cause { IsErrOf result Served.Source → Rose (S.faults source.old) (S.faults source.new) }
-    ensures sink_gains { GainsSome (K.stands sink.old) (K.stands sink.new) }
-    ensures sink_later { K.faults sink.old ≤ K.faults sink.new }
-    ensures sink_cause { IsErrOf result Served.Sink → Rose (K.faults sink.old) (K.faults sink.new) }
-    ensures device_later { D.faults device.old ≤ D.faults device.new }
-    ensures device_cause { IsErrOf result Served.Device → Rose (D.faults device.old) (D.faults device.new) }
+    ensures source { TakesFrom S.Source (IsErrOf result Served.Source) source.old source.new }
+    ensures sink { GivesTo K.Sink (IsErrOf result Served.Sink) sink.old sink.new }
+    ensures device { TurnActs D.Device session.old session.new result device.old device.new }
 {
     let n = match source.read(page) {
         Ok(n) => n,
@@ -221,21 +166,19 @@ fn serve_open<S: Source, K: Sink, D: Device>(
     requires none { kept_in session.old ≡ [] }
 
     ensures over { (before : State) → IsOpen (store_in session.old) before (D.state device.old)
-        → IsSound result × TurnedOver (extents_of (store_in session.old)) before result [] [] (S.left source.old)
-        (S.left source.new) (K.stands sink.old) (K.stands sink.new) (K.faults sink.old) (K.faults sink.new)
-        (D.state device.old) (D.state device.new) }
+        → ServesFrom S.Source K.Sink D.Device (extents_of (store_in session.old)) before result
+        source.old source.new sink.old sink.new device.old device.new }
+    ensures seen { (image : Image) → (D.state device.old).shown ≡ Some image
+        → ServesSeen (seen_of (store_in session.old) image) result (S.left source.old) (S.left source.new)
+        (K.stands sink.old) (K.stands sink.new) }
     ensures damaged { (b : ℕ) → result ≡ Served.Damaged b
-        → StopsSomeGet (store_in session.old).named.geometry (extents_of (store_in session.old)) b
-        (D.state device.new) }
-    ensures turns { result ≡ Served.Turns → RoseBy (2 ^ 48) (S.pieces source.old) (S.pieces source.new) }
+        → StopsGetOf (store_in session.old) b (D.state device.new) }
+    ensures turns { result ≡ Served.Turns
+        → RoseBy (2 ^ 48) (S.pieces source.old) (S.pieces source.new) }
     ensures pieces { S.pieces source.new ≤ S.pieces source.old + 2 ^ 48 }
-    ensures source_later { S.faults source.old ≤ S.faults source.new }
-    ensures source_cause { result ≡ Served.Source → Rose (S.faults source.old) (S.faults source.new) }
-    ensures sink_gains { GainsSome (K.stands sink.old) (K.stands sink.new) }
-    ensures sink_later { K.faults sink.old ≤ K.faults sink.new }
-    ensures sink_cause { result ≡ Served.Sink → Rose (K.faults sink.old) (K.faults sink.new) }
-    ensures device_later { D.faults device.old ≤ D.faults device.new }
-    ensures device_cause { result ≡ Served.Device → Rose (D.faults device.old) (D.faults device.new) }
+    ensures source { TakesFrom S.Source (result ≡ Served.Source) source.old source.new }
+    ensures sink { GivesTo K.Sink (result ≡ Served.Sink) sink.old sink.new }
+    ensures device { FailsOn D.Device (result ≡ Served.Device) device.old device.new }
 {
     let Ok(mut page) = Page::new(alloc) else {
         return Served::NoMemory;
@@ -272,9 +215,8 @@ pub fn serve<S: Source, K: Sink, D: Device>(
     // On a device at rest: the answers are a map's, nothing that was acknowledged is lost at any moment, and no
     // block is damaged.
     ensures over { (before : State) (r : Rests before (D.state device.old))
-        → IsSound result × TurnedOver r.rest.named.manifest.header.extents before result [] [] (S.left source.old)
-        (S.left source.new) (K.stands sink.old) (K.stands sink.new) (K.faults sink.old) (K.faults sink.new)
-        (D.state device.old) (D.state device.new) }
+        → ServesFrom S.Source K.Sink D.Device r.rest.named.manifest.header.extents before result
+        source.old source.new sink.old sink.new device.old device.new }
 
     // On any device a damaged block is one at which opening stops, and then nothing was read, written or answered,
     // or one at which a get stops.
@@ -285,17 +227,20 @@ pub fn serve<S: Source, K: Sink, D: Device>(
     // And where opening stops at a block nothing is served: the answer is that block, or the device failed, or
     // memory was short.
     ensures unopened { (b : ℕ) → FailsToOpen (D.state device.old) b
-        → IsUnopened b result × (D.state device.new ≡ D.state device.old) × (source.new ≡ source.old)
-        × (sink.new ≡ sink.old) }
-    ensures turns { result ≡ Served.Turns → RoseBy (2 ^ 48) (S.pieces source.old) (S.pieces source.new) }
+        → IsUnopened b result × (D.state device.new ≡ D.state device.old)
+        × (source.new ≡ source.old) × (sink.new ≡ sink.old) }
+    // On any device that opens, up to the first write that is taken: a get is answered by what the blocks tell of its
+    // key, and so stops at a damaged bucket.
+    ensures seen { (image : Image) (opened : Opened) → (D.state device.old).shown ≡ Some image
+        → open_image image ≡ Ok opened
+        → ServesSeen (seen_on opened image) result (S.left source.old) (S.left source.new)
+        (K.stands sink.old) (K.stands sink.new) }
+    ensures turns { result ≡ Served.Turns
+        → RoseBy (2 ^ 48) (S.pieces source.old) (S.pieces source.new) }
     ensures pieces { S.pieces source.new ≤ S.pieces source.old + 2 ^ 48 }
-    ensures source_later { S.faults source.old ≤ S.faults source.new }
-    ensures source_cause { result ≡ Served.Source → Rose (S.faults source.old) (S.faults source.new) }
-    ensures sink_gains { GainsSome (K.stands sink.old) (K.stands sink.new) }
-    ensures sink_later { K.faults sink.old ≤ K.faults sink.new }
-    ensures sink_cause { result ≡ Served.Sink → Rose (K.faults sink.old) (K.faults sink.new) }
-    ensures device_later { D.faults device.old ≤ D.faults device.new }
-    ensures device_cause { result ≡ Served.Device → Rose (D.faults device.old) (D.faults device.new) }
+    ensures source { TakesFrom S.Source (result ≡ Served.Source) source.old source.new }
+    ensures sink { GivesTo K.Sink (result ≡ Served.Sink) sink.old sink.new }
+    ensures device { FailsOn D.Device (result ≡ Served.Device) device.old device.new }
 {
     match Session::open(alloc, device) {
         Ok(mut session) => serve_open(alloc, &mut session, source, sink, device),

@@ -17,15 +17,16 @@ use Rattle.lt_store.specs.declared.writing.Taken.{Taken}
 use Rattle.lt_store.specs.declared.writing.Taken.TheVariants as taken
 use Rattle.lt_htable.specs.declared.faults.LookFault.{LookFault}
 use Rattle.lt_htable.specs.declared.faults.LookFault.TheVariants as looks
-use Rattle.lt_store.specs.Acting.{IsStep, RepliesSeen, TellsSeen, reply_of}
+use Rattle.lt_store.specs.Acting.{IsKind, IsStep, TellsSeen, reply_of}
+use Rattle.lt_store.specs.Promise.{RepliesSeen}
 use Rattle.lt_store.specs.Faults.{fault_of_look}
 use Rattle.lt_store.specs.Getting.{AnswersSeen, Finds}
-use Rattle.lt_tables.specs.Merge.{value_of}
+use Rattle.lt_tables.specs.Table.{value_of}
 use Rattle.lt_language.specs.Replies as replies
 use Rattle.lt_language.specs.Replies.{Reply}
 use Rattle.lt_store.specs.Going.{Goes}
 use Rattle.lt_store.specs.Open.{StoreView, IsOpen}
-use Rattle.lt_store.specs.Promise.{IsRooted}
+use Rattle.lt_store.specs.Promise.{IsReplyTo, IsRooted, IsWriteReply}
 use Rattle.lt_store.specs.Taking.{accepted_by}
 use Rattle.lt_device.specs.declared.device.Device.{Ghosts}
 use Rattle.lt_store.specs.Writing.{WhileRooted, Writes}
@@ -68,6 +69,12 @@ module _ (e n : ℕ) (s : State) (answer : Taken) (number : s.writes ≡ n) (lim
       by_answer taken.Ok is = (below (λ h. cc), refl)
       by_answer (taken.Full needed free) is = let short = room needed free is in (below (λ h. cc), short.0, short.1, no_writes s)
       by_answer taken.Limit is = (number ∙ limit.0 is, no_writes s)
+
+-- the reply to a write is of its kind
+pub write-kind : (command : Command) (answer : Taken) (page : List ℕ) → ((reply : Reply) → IsWriteReply reply → IsReplyTo command reply) → IsKind (Some command) (reply_of (outcomes.Taken answer) page)
+write-kind command taken.Ok page kind = kind replies.ok tt
+write-kind command (taken.Full needed free) page kind = kind (replies.full needed free) tt
+write-kind command taken.Limit page kind = kind replies.limit tt
 
 -- a write that was refused, with the store up or not
 module _ (up : Bool) (result : Result Taken WriteFault) (fault : WriteFault) (was : result ≡ Err fault) (downs : (up ≡ false) ↔ IsErrOf result Device) (undamaged : (b : ℕ) → IsErrOf result (Damaged b) → ⊥) where

@@ -7,14 +7,12 @@ use Rattle.std.proofs.lemmas.List.{take_at}
 use Rattle.std.proofs.lemmas.List.Sums.{fold-append}
 use Rattle.lt_terms.specs.Bytes.{Image}
 use Rattle.lt_terms.specs.Hashes.{home_column}
-use Rattle.lt_terms.specs.Items.{Item}
-use Rattle.lt_terms.specs.Maps.{value_at, applied, after_items, empty_map}
+use Rattle.lt_terms.specs.Items.{Item, value_at, applied, after_items, empty_map}
 use Rattle.lt_language.specs.Machine.{State}
 use Rattle.lt_device.specs.State as told
 use Rattle.lt_device.specs.Reads.{CountsAtMost}
 use Rattle.lt_tables.specs.Filter.{covers}
-use Rattle.lt_tables.specs.Merge.{newest, newest_of, value_of, is_put}
-use Rattle.lt_tables.specs.Table.{IsPlaced}
+use Rattle.lt_tables.specs.Table.{newest, newest_of, value_of, is_put, IsPlaced}
 use Rattle.lt_tables.proofs.RankLaws.{newest_or}
 use Rattle.lt_tables.proofs.NewestLaws.{newest_of-append}
 use Rattle.lt_tables.proofs.VersionLaws.{get_versions}
@@ -24,9 +22,7 @@ use Rattle.lt_format.specs.Layout.{extent_block}
 use Rattle.lt_format.specs.Trie.{Trie, root, named, IsTrie}
 use Rattle.lt_htable.specs.declared.faults.LookFault.{LookFault}
 use Rattle.lt_htable.specs.declared.faults.LookFault.TheVariants.{Device, Damaged}
-use Rattle.lt_image.specs.OnPath.{Stop, first_some}
-use Rattle.lt_image.specs.Opening.{Opened}
-use Rattle.lt_image.specs.Versions.{extent_in, items_at, pile_items, versions}
+use Rattle.lt_image.specs.Versions.{Stop, first_some, extent_in, items_at, pile_items, versions, Opened}
 use Rattle.lt_image.proofs.MapLaws.{named-tables}
 use Rattle.lt_image.proofs.OpenLaws.{opens-well}
 use Rattle.lt_image.proofs.PathLaws.{newest_or-is, first_some-pile}
@@ -39,7 +35,8 @@ use Rattle.lt_store.specs.declared.getting.Version.TheVariants.{Value, Deleted}
 use Rattle.lt_store.specs.Building.{KeepsFilter}
 use Rattle.lt_store.specs.Getting.{Finds, Answers, IsVersion, IsAnswer, IsReadable, HoldsKey, asked_from, with_value, version_of, page_with, value_len}
 use Rattle.lt_store.specs.Kept.{IsKept}
-use Rattle.lt_store.specs.Open.{StoreView, IsOpen, root_pile, state_of}
+use Rattle.lt_store.specs.Open.{StoreView, IsOpen, state_of}
+use Rattle.lt_store.specs.Promise.{root_pile}
 use Rattle.lt_store.proofs.FilterLaws.{below_all}
 use Rattle.lt_store.proofs.MomentLaws.{open-image}
 

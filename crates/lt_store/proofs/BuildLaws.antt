@@ -3,11 +3,9 @@ use Rattle.std.proofs.Common.{◌≡◌, ◌≢◌, ℕ, zero, suc, ◌+◌, ◌
 use Rattle.std.specs.List.{AllZip}
 use Rattle.std.proofs.lemmas.List.{get_or-set_same, get_or-set_other}
 use Rattle.std.proofs.lemmas.Bool.{cases_eq, true≢false}
-use Rattle.lt_terms.specs.Bytes.{Image}
+use Rattle.lt_terms.specs.Bytes.{Image, is_in}
 use Rattle.lt_terms.specs.Items.{Item}
-use Rattle.lt_terms.specs.Numbers.{is_in}
-use Rattle.lt_device.specs.State.{State}
-use Rattle.lt_device.specs.Image.{SameOutside}
+use Rattle.lt_device.specs.State.{State, SameOutside}
 use Rattle.lt_device.specs.Moments.{ConfinedTo, ShowsSameOutside}
 use Rattle.lt_device.proofs.Runs.{confined_within}
 use Rattle.lt_device.proofs.Steps.{same_some}

@@ -2,10 +2,10 @@
 use Rattle.std.proofs.Common.{◌≡◌, ℕ, zero, suc, ◌+◌, ◌<◌, ◌≤◌, refl, sym, ap, subst, ◌∙◌, List, [], ◌∷◌, ◌++◌, length, Bool, true, false, not, cond, length-append, zero-add, arith}
 use Rattle.std.proofs.lemmas.Bool.{eq-eqb, ne_eqb, not-true}
 use Rattle.std.proofs.lemmas.List.Sums.{sum_by-cons}
-use Rattle.lt_terms.specs.Numbers.{is_in}
+use Rattle.lt_terms.specs.Bytes.{is_in}
 use Rattle.lt_alloc.specs.Extents.{is_free, free_count}
 use Rattle.lt_alloc.proofs.StackLaws.{is_free-within}
-use Rattle.lt_format.specs.Naming.{Named}
+use Rattle.lt_format.specs.Snapshot.{Named}
 use Rattle.lt_format.specs.Trie.{named, table_total, all_distinct, all_below}
 use Rattle.lt_format.proofs.Numbers.{times, times-append, times-absent, times-distinct, times-below, below-times, few-below}
 use Rattle.lt_redo.specs.LogState.{LogState}

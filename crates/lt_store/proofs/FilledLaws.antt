@@ -10,7 +10,7 @@ use Rattle.lt_language.specs.Machine.{State}
 use Rattle.lt_redo.specs.LogState.{LogState, other_area}
 use Rattle.lt_redo.specs.Slots.{HasLog, InLogArea}
 use Rattle.lt_tables.specs.Cut.{cut}
-use Rattle.lt_tables.specs.Merge.{newest}
+use Rattle.lt_tables.specs.Table.{newest}
 use Rattle.lt_store.specs.Building.{HasTable, InExtents}
 use Rattle.lt_store.specs.Flushing.{AreFree, IsPrepared, SomeKept, Stays}
 use Rattle.lt_store.specs.Open.{IsOpen, StoreView}

@@ -4,8 +4,7 @@ use Rattle.std.specs.Prelude.{nat_lt}
 use Rattle.std.specs.List.{AllByRecursion}
 use Rattle.std.proofs.lemmas.Bool.{and_parts, ltb-true, true≢false, cases_eq}
 use Rattle.std.proofs.lemmas.List.{get_or-set_same, get_or-set_other, length-append}
-use Rattle.lt_terms.specs.Bytes.{Image, block_at}
-use Rattle.lt_terms.specs.Numbers.{is_in}
+use Rattle.lt_terms.specs.Bytes.{Image, block_at, is_in}
 use Rattle.lt_format.specs.declared.geometry.Geometry.{Geometry}
 use Rattle.lt_format.specs.declared.node_id.NodeId.{NodeId}
 use Rattle.lt_format.specs.Layout.{extent_block}
@@ -15,7 +14,7 @@ use Rattle.lt_image.specs.Versions.{extent_in}
 use Rattle.lt_image.proofs.AfterLaws.{node_at-holds}
 use Rattle.lt_image.proofs.MapLaws.{named-tables}
 use Rattle.lt_store.specs.Building.{KeepsFilter}
-use Rattle.lt_store.specs.Open.{root_pile}
+use Rattle.lt_store.specs.Promise.{root_pile}
 use Rattle.lt_store.specs.Reading.{KeepsFilters}
 use Rattle.lt_store.proofs.NumberLaws.{is_in-at}
 use Rattle.lt_store.proofs.PileLaws.{all_at}

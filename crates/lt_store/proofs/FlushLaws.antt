@@ -4,31 +4,29 @@ use Rattle.std.specs.Prelude.{IsTrue, slice_index_or}
 use Rattle.std.specs.List.{AllByRecursion, AllZip}
 use Rattle.lt_terms.specs.Bytes.{Image, block_at}
 use Rattle.lt_terms.specs.Items.{Item}
-use Rattle.lt_device.specs.Image.{SameOutside}
+use Rattle.lt_device.specs.State.{SameOutside}
 use Rattle.lt_device.specs.State as told
 use Rattle.lt_device.specs.Moments.{MayLeave, Leaves, ShownNow, ConfinedTo, UnsyncedIn}
 use Rattle.lt_device.proofs.Images.{same_outside_joins, same_outside_widens}
 use Rattle.lt_device.proofs.Runs.{weakens, both}
 use Rattle.lt_language.specs.Machine.{State}
 use Rattle.lt_tables.specs.Cut.{cut}
-use Rattle.lt_terms.specs.Numbers.{is_in}
-use Rattle.lt_tables.specs.Merge.{newest}
+use Rattle.lt_terms.specs.Bytes.{is_in}
+use Rattle.lt_tables.specs.Table.{newest, IsPlaced}
 use Rattle.lt_format.specs.declared.geometry.Geometry.{Geometry}
 use Rattle.lt_format.specs.declared.header.Header.{Header}
 use Rattle.lt_format.specs.Layout.{extent_block}
 use Rattle.lt_format.specs.Log.{items_in}
-use Rattle.lt_format.specs.Naming.{Named, InManifest, manifest_of, after_commit}
-use Rattle.lt_format.specs.Snapshot.{Manifest}
+use Rattle.lt_format.specs.Snapshot.{Named, InManifest, manifest_of, after_commit, Manifest}
 use Rattle.lt_format.specs.Trie.{named}
 use Rattle.lt_format.specs.Changes.{flush}
-use Rattle.lt_manifest.specs.Moments.{Names, HasNew, HasOldOrNew}
+use Rattle.lt_manifest.specs.Promise.{Names, HasNew, HasOldOrNew}
 use Rattle.lt_redo.specs.LogState.{LogState, other_area}
 use Rattle.lt_redo.specs.Slots.{HasLog, InLogArea}
 use Rattle.lt_redo.proofs.AreaLaws.{has_log-local}
 use Rattle.lt_image.specs.After.{SameExtent, SameNamed, Follows, PlacedIn}
-use Rattle.lt_image.specs.Opening.{Opened, open_image, number_of, log_items}
-use Rattle.lt_image.specs.Soundness.{bad_blocks}
-use Rattle.lt_image.specs.Standing.{Stands, is_free_block}
+use Rattle.lt_image.specs.Versions.{Opened, open_image, number_of, log_items, extent_in as extent_at}
+use Rattle.lt_image.specs.Standing.{bad_blocks, Stands, is_free_block}
 use Rattle.lt_image.proofs.CountLaws.{flushes}
 use Rattle.lt_image.proofs.LocalLaws.{local-stands}
 use Rattle.lt_image.proofs.OpenLaws.{is-opens}
@@ -36,10 +34,9 @@ use Rattle.lt_image.proofs.RootLaws.{root-flush, root-tables}
 use Rattle.lt_image.proofs.StandLaws.{flush-stands}
 use Rattle.lt_store.specs.Building.{InExtents, KeepsFilter}
 use Rattle.lt_store.specs.Flushing.{Stays, AreFree, flushed_log, flushed}
-use Rattle.lt_store.specs.Open.{IsOpen, StoreView, root_pile}
+use Rattle.lt_store.specs.Open.{IsOpen, StoreView}
+use Rattle.lt_store.specs.Promise.{root_pile}
 use Rattle.lt_store.proofs.SameLaws.{Same, same-other, same-unnamed, same-names}
-use Rattle.lt_image.specs.Versions.{extent_in as extent_at}
-use Rattle.lt_tables.specs.Table.{IsPlaced}
 use Rattle.lt_store.proofs.MomentLaws.{IsReady, open-steady, open-names, open-ready, open-agrees, open-same, open-from, keeps-same, same-ready, sure-agrees, open-image}
 
 -- what a store in memory says of its view, whatever the device holds

@@ -3,7 +3,7 @@ use Rattle.std.proofs.Common.{◌≡◌, ℕ, ap, List, length, Bool, true, fals
 use Rattle.lt_terms.specs.declared.Kind.{Kind}
 use Rattle.lt_terms.specs.declared.Kind.TheVariants.{Put, Delete}
 use Rattle.lt_terms.specs.Items.{Item}
-use Rattle.lt_tables.specs.Merge.{is_put}
+use Rattle.lt_tables.specs.Table.{is_put}
 use Rattle.lt_store.specs.declared.getting.Version.TheVariants.{Value, Deleted}
 use Rattle.lt_store.specs.Getting.{with_value, version_of, page_with}
 

@@ -4,7 +4,7 @@ use Rattle.std.specs.Prelude.{IsTrue, slice_index_or}
 use Rattle.std.specs.List.{AllByRecursion}
 use Rattle.lt_terms.specs.Bytes.{Image, block_at}
 use Rattle.lt_terms.specs.Items.{Item}
-use Rattle.lt_device.specs.Image.{SameOutside}
+use Rattle.lt_device.specs.State.{SameOutside}
 use Rattle.lt_device.specs.State as told
 use Rattle.lt_device.specs.Moments.{MayLeave, Leaves, ShownNow, IsNear, ConfinedTo, UnsyncedIn}
 use Rattle.lt_device.proofs.Runs.{weakens, both}
@@ -12,21 +12,21 @@ use Rattle.lt_language.specs.Machine.{State}
 use Rattle.lt_format.specs.declared.geometry.Geometry.{Geometry}
 use Rattle.lt_format.specs.Layout.{extent_block, log_gate}
 use Rattle.lt_format.specs.Log.{items_in}
-use Rattle.lt_format.specs.Naming.{manifest_of}
+use Rattle.lt_format.specs.Snapshot.{manifest_of}
 use Rattle.lt_format.specs.Trie.{named}
 use Rattle.lt_format.proofs.LocalLaws.{manifest-local}
-use Rattle.lt_manifest.specs.Moments.{Names}
+use Rattle.lt_manifest.specs.Promise.{Names}
 use Rattle.lt_redo.specs.LogState.{LogState, slots_with, groups_with}
 use Rattle.lt_redo.specs.Slots.{HasLog, HasLogOrLonger, InSlot}
 use Rattle.lt_image.specs.After.{Keeps, SameExtent}
-use Rattle.lt_image.specs.Opening.{Opened, open_image}
+use Rattle.lt_image.specs.Versions.{Opened, open_image, extent_in}
 use Rattle.lt_image.specs.Standing.{Stands, is_free_block, after_writes, IsPrefix}
-use Rattle.lt_image.specs.Versions.{extent_in}
 use Rattle.lt_image.proofs.KeptLaws.{log-grows, no_writes}
 use Rattle.lt_image.proofs.OpenLaws.{is-opens}
 use Rattle.lt_store.specs.Building.{KeepsFilter}
 use Rattle.lt_store.specs.Committing.{StandsForEither, committed, committed_log}
-use Rattle.lt_store.specs.Open.{IsOpen, StoreView, root_pile}
+use Rattle.lt_store.specs.Open.{IsOpen, StoreView}
+use Rattle.lt_store.specs.Promise.{root_pile}
 use Rattle.lt_store.proofs.SameLaws.{same-names, same-log, same-filters}
 use Rattle.lt_store.proofs.MomentLaws.{open-names, open-same, open-from, sure-agrees}
 use Rattle.lt_store.proofs.FlushLaws.{Fits, each_all}

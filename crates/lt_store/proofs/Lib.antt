@@ -27,3 +27,4 @@ pub mod SeenLaws
 pub mod StopLaws
 pub mod TakeLaws
 pub mod WholeLaws
+pub mod LiveLaws

@@ -4,19 +4,17 @@ use Rattle.std.specs.Option.{ForSome, option_map}
 use Rattle.std.proofs.lemmas.Bool.{le-leb}
 use Rattle.std.proofs.lemmas.List.{length-set}
 use Rattle.lt_terms.specs.Bytes.{Image, block_at}
-use Rattle.lt_device.specs.Image.{SameOutside}
-use Rattle.lt_device.specs.State.{State, IsFit, synced, written}
+use Rattle.lt_device.specs.State.{SameOutside, State, IsFit, synced, written}
 use Rattle.lt_device.specs.Moments.{MayLeave, ConfinedTo, ShowsSameOutside}
 use Rattle.lt_device.proofs.Images.{block_at-set_same, block_at-set_other, crash_none}
 use Rattle.lt_device.proofs.Steps.{option_map-Some, same_some, sync_only, sync_shown}
 use Rattle.lt_language.specs.Machine.{nothing_yet}
 use Rattle.lt_format.specs.declared.geometry.Geometry.{Geometry}
 use Rattle.lt_format.specs.Layout.{is_geometry, geometry_of, superblock, selected, selector_block, area_block, log_gate, is_open, blocks_needed}
-use Rattle.lt_format.specs.Snapshot.{Manifest, snapshot_in, ◌>>=◌}
-use Rattle.lt_format.specs.Naming.{InManifest, geometry_in, manifest_in, manifest_of, roomy}
+use Rattle.lt_format.specs.Snapshot.{Manifest, snapshot_in, ◌>>=◌, InManifest, geometry_in, manifest_in, manifest_of, roomy}
 use Rattle.lt_format.proofs.LocalLaws.{snapshot-local}
 use Rattle.lt_layout.proofs.SuperLaws.{geometry_of-superblock}
-use Rattle.lt_manifest.specs.Opened.{fresh}
+use Rattle.lt_manifest.specs.Promise.{fresh}
 use Rattle.lt_redo.specs.Slots.{IsCleared}
 use Rattle.lt_redo.proofs.ClearLaws.{has_log-cleared}
 use Rattle.lt_image.specs.Standing.{Stands}

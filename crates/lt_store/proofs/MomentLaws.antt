@@ -4,7 +4,7 @@ use Rattle.std.specs.Prelude.{IsTrue}
 use Rattle.std.specs.List.{AllByRecursion}
 use Rattle.lt_terms.specs.Bytes.{Image}
 use Rattle.lt_terms.specs.Items.{Item}
-use Rattle.lt_device.specs.Image.{SameOutside}
+use Rattle.lt_device.specs.State.{SameOutside}
 use Rattle.lt_device.specs.State as told
 use Rattle.lt_device.specs.Moments.{MayLeave, Leaves, ShownNow, ConfinedTo, UnsyncedIn}
 use Rattle.lt_device.proofs.Images.{same_outside_widens}
@@ -13,16 +13,16 @@ use Rattle.lt_device.proofs.Rest.{unsynced_near}
 use Rattle.lt_language.specs.Machine.{State}
 use Rattle.lt_format.specs.Log.{items_in}
 use Rattle.lt_format.specs.Trie.{named}
-use Rattle.lt_manifest.specs.Moments.{Names}
+use Rattle.lt_manifest.specs.Promise.{Names}
 use Rattle.lt_redo.specs.Slots.{HasLog}
 use Rattle.lt_image.specs.Standing.{Stands, is_free_block}
 use Rattle.lt_store.specs.Building.{KeepsFilter}
 use Rattle.lt_store.specs.Flushing.{Stays}
-use Rattle.lt_store.specs.Open.{IsOpen, StoreView, root_pile}
-use Rattle.lt_store.specs.Promise.{IsRootOnly}
+use Rattle.lt_store.specs.Open.{IsOpen, StoreView}
+use Rattle.lt_store.specs.Promise.{root_pile, IsRootOnly}
 use Rattle.lt_store.proofs.SameLaws.{Same, same-trans, same-names, same-stands, same-log, same-filters, same-free}
 use Rattle.lt_image.proofs.OpenLaws.{is-opens}
-use Rattle.lt_image.specs.Opening.{open_image}
+use Rattle.lt_image.specs.Versions.{open_image}
 
 -- what an open store has of one image
 pub record IsReady (v : StoreView) (d : State) (groups : List (List Item)) (image : Image) : Type 0 where

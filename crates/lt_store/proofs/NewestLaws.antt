@@ -8,7 +8,7 @@ use Rattle.std.specs.declared.cmp.Ordering.{Ordering}
 use Rattle.std.specs.declared.cmp.Ordering.TheVariants.{Less, Equal, Greater}
 use Rattle.lt_terms.specs.Hashes.{rank_cmp}
 use Rattle.lt_terms.specs.Items.{Item}
-use Rattle.lt_tables.specs.Merge.{newest, ranked}
+use Rattle.lt_tables.specs.Table.{newest, ranked}
 
 by_order-some : (o : Ordering) (a b c : List (List ℕ × Item)) → 0 < length a → 0 < length b → 0 < length c → 0 < length (by_order o a b c)
 by_order-some Less a b c one two three = one

@@ -2,7 +2,7 @@
 use Rattle.std.proofs.Common.{◌≡◌, ◌≢◌, ℕ, zero, suc, ◌+◌, ◌<◌, refl, sym, subst, ◌∙◌, List, [], ◌∷◌, length, get_or, true, not, arith}
 use Rattle.std.specs.Prelude.{◌==◌}
 use Rattle.std.proofs.lemmas.Bool.{and_parts, true≢false, not-true, eq-eqb, or_left, or_right}
-use Rattle.lt_terms.specs.Numbers.{is_in}
+use Rattle.lt_terms.specs.Bytes.{is_in}
 use Rattle.lt_format.specs.declared.geometry.Geometry.{Geometry}
 use Rattle.lt_format.specs.Layout.{extent_block}
 use Rattle.lt_format.specs.Trie.{all_distinct}

@@ -12,18 +12,17 @@ use Rattle.lt_language.specs.Machine.{State}
 use Rattle.lt_format.specs.declared.geometry.Geometry.{Geometry}
 use Rattle.lt_format.specs.Layout.{is_geometry, log_gate, extent_block, blocks_needed}
 use Rattle.lt_format.specs.Log.{log_groups, items_in}
-use Rattle.lt_format.specs.Naming.{Named, geometry_in, manifest_in, manifest_of}
-use Rattle.lt_format.specs.Snapshot.{Manifest, IsManifest, extents_stand, ◌>>=◌}
+use Rattle.lt_format.specs.Snapshot.{Named, geometry_in, manifest_in, manifest_of, Manifest, IsManifest, extents_stand, ◌>>=◌}
 use Rattle.lt_format.proofs.ReadLaws.{ok_same}
-use Rattle.lt_manifest.specs.Opened.{InSnapshot}
+use Rattle.lt_manifest.specs.Promise.{InSnapshot}
 use Rattle.lt_redo.specs.LogState.{LogState}
 use Rattle.lt_redo.specs.Opening.{HasItems}
 use Rattle.lt_redo.specs.Slots.{InLogArea}
-use Rattle.lt_image.specs.Opening.{open_image}
+use Rattle.lt_image.specs.Versions.{open_image}
 use Rattle.lt_image.proofs.OpenLaws.{opens-is}
 use Rattle.lt_store.specs.Building.{KeepsFilter}
-use Rattle.lt_store.specs.Open.{StoreView, IsOpen, root_pile, blocks_of}
-use Rattle.lt_store.specs.Promise.{AtRest, IsRootOnly}
+use Rattle.lt_store.specs.Open.{StoreView, IsOpen, blocks_of}
+use Rattle.lt_store.specs.Promise.{root_pile, AtRest, IsRootOnly}
 use Rattle.lt_store.specs.Reading.{Reads, KeepsFilters, IsBelowExtents, Assembles, log_at}
 use Rattle.lt_store.proofs.FilterLaws.{pile-few}
 

@@ -9,8 +9,7 @@ use Rattle.std.proofs.lemmas.List.Concat.{flat_map-append}
 use Rattle.std.proofs.lemmas.List.Sums.{sum_by-cons, sum_by-take-drop}
 use Rattle.lt_terms.specs.Bytes.{Image}
 use Rattle.lt_terms.specs.Items.{Item}
-use Rattle.lt_tables.specs.Merge.{newest, newest_of}
-use Rattle.lt_tables.specs.Table.{blocks_from, IsPlaced}
+use Rattle.lt_tables.specs.Table.{newest, newest_of, blocks_from, IsPlaced}
 use Rattle.lt_tables.proofs.RankLaws.{newest_or}
 use Rattle.lt_tables.proofs.NewestLaws.{newest_of-append, newest_of-newest}
 use Rattle.lt_device.specs.Reads.{CountsAtMost}

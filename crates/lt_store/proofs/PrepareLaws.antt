@@ -10,12 +10,12 @@ use Rattle.lt_device.specs.Moments.{MayLeave, IsNear, ConfinedTo}
 use Rattle.lt_device.proofs.Runs.{joins}
 use Rattle.lt_language.specs.Machine.{State}
 use Rattle.lt_tables.specs.Cut.{cut}
-use Rattle.lt_terms.specs.Numbers.{is_in}
-use Rattle.lt_tables.specs.Merge.{newest}
+use Rattle.lt_terms.specs.Bytes.{is_in}
+use Rattle.lt_tables.specs.Table.{newest}
 use Rattle.lt_format.specs.declared.geometry.Geometry.{Geometry}
 use Rattle.lt_format.specs.declared.header.Header.{Header}
 use Rattle.lt_format.specs.Changes.{flush, fits, are_new}
-use Rattle.lt_format.specs.Naming.{Named, may_commit, log_moves}
+use Rattle.lt_format.specs.Snapshot.{Named, may_commit, log_moves}
 use Rattle.lt_format.specs.Trie.{Trie, named, all_distinct, all_below}
 use Rattle.lt_redo.specs.LogState.{other_area}
 use Rattle.lt_redo.specs.Slots.{HasLog, InLogArea}

@@ -4,18 +4,17 @@ use Rattle.std.specs.Prelude.{◌==◌, nat_le, nat_lt}
 use Rattle.std.proofs.lemmas.Bool.{eqb-true, true≢false, and_from, and_parts, leb-true, ltb-true, lt-ltb}
 use Rattle.lt_terms.specs.Items.{Item, total_cost}
 use Rattle.lt_bucket.proofs.BucketPages.{count_small}
-use Rattle.lt_terms.specs.Numbers.{is_in}
+use Rattle.lt_terms.specs.Bytes.{is_in}
 use Rattle.lt_alloc.specs.Extents.{is_free, Reserves}
 use Rattle.lt_format.specs.declared.header.Header.{Header}
 use Rattle.lt_format.specs.Changes.{flush, after_change}
 use Rattle.lt_format.specs.Log.{log_room}
-use Rattle.lt_format.specs.Naming.{Named, after_commit}
-use Rattle.lt_format.specs.Snapshot.{Manifest}
+use Rattle.lt_format.specs.Snapshot.{Named, after_commit, Manifest}
 use Rattle.lt_format.specs.Trie.{Trie, named, node_cmp, all_distinct}
 use Rattle.std.specs.FinMap.{is_sorted}
 use Rattle.lt_format.proofs.NamedLaws.{flush-times}
 use Rattle.lt_format.proofs.Numbers.{times, absent-times, times-absent}
-use Rattle.lt_manifest.specs.Opened as opened
+use Rattle.lt_manifest.specs.Promise as opened
 use Rattle.lt_redo.specs.LogState.{LogState, other_area}
 use Rattle.lt_store.specs.Flushing.{AreFree, flushed_log}
 use Rattle.lt_store.specs.Kept.{IsKept}
@@ -144,6 +143,7 @@ flushed-kept n m log memory taken now filters writes count numbers header k r so
       within = omega arith;
       slot = λ none. absurd (omega arith);
       room = omega arith;
+      least = omega arith;
       taken_named = record {
         len = same ∙ size ∙ sym head_extents;
         free = λ x small.
@@ -174,6 +174,7 @@ back-kept n m log log' memory memory' taken now given filters filters' writes wr
   within = k'.within;
   slot = k'.slot;
   room = k'.room;
+  least = k'.least;
   taken_named = record {
     len = size ∙ r.same_extents ∙ k'.taken_named.len;
     free = λ x small. given-free n log memory taken now filters writes count numbers k r given back x (let len = k'.taken_named.len in omega (arith, small, len)) ∙ k'.taken_named.free x small;

@@ -7,10 +7,10 @@ use Rattle.lt_device.specs.Moments.{MayLeave, Leaves, ShownNow, ConfinedTo, Unsy
 use Rattle.lt_device.proofs.Runs.{begins, weakens, joins, confined_keeps}
 use Rattle.lt_language.specs.Machine.{State}
 use Rattle.lt_format.specs.declared.header.Header.{Header}
-use Rattle.lt_format.specs.Naming.{Named, after_commit}
+use Rattle.lt_format.specs.Snapshot.{Named, after_commit}
 use Rattle.lt_format.specs.Changes.{flush}
 use Rattle.lt_format.proofs.LocalLaws.{manifest-local}
-use Rattle.lt_manifest.specs.Moments.{Names, HasOldOrNew}
+use Rattle.lt_manifest.specs.Promise.{Names, HasOldOrNew}
 use Rattle.lt_redo.specs.Slots.{InSlot}
 use Rattle.lt_image.specs.Standing.{Stands, is_free_block}
 use Rattle.lt_image.proofs.RootLaws.{root-flush}

@@ -6,21 +6,22 @@ use Rattle.lt_terms.specs.Bytes.{Image, block_at}
 use Rattle.lt_terms.specs.Hashes.{home_column}
 use Rattle.lt_terms.specs.Items.{Item}
 use Rattle.lt_tables.specs.Bucket.{Look, here, moved, absent, look_on}
-use Rattle.lt_tables.specs.Merge.{newest_of}
+use Rattle.lt_tables.specs.Table.{newest_of}
 use Rattle.lt_format.specs.declared.geometry.Geometry.{Geometry}
 use Rattle.lt_format.specs.Layout.{extent_block}
 use Rattle.lt_htable.specs.declared.faults.LookFault.{LookFault}
 use Rattle.lt_htable.specs.declared.faults.LookFault.TheVariants.{Device, Damaged}
 use Rattle.lt_htable.specs.Reading.{IsLookedUp, at_last, at_home, target_of}
 use Rattle.lt_store.specs.declared.getting.Version.{Version}
-use Rattle.lt_store.specs.Getting.{AnswersSeen, IsSeen, IsVersion, before_older, is_covered, may_hold, seen, seen_at, seen_in, seen_of, seen_on, value_len}
+use Rattle.lt_store.specs.Getting.{AnswersSeen, IsSeen, IsVersion, may_hold, seen_of, value_len}
+use Rattle.lt_store.specs.Promise.{before_older, is_covered, seen, seen_at, seen_in, seen_on, root_pile}
 use Rattle.lt_store.specs.Reading.{Reads}
 use Rattle.lt_store.specs.Building.{KeepsFilter}
-use Rattle.lt_format.specs.Naming.{Named}
-use Rattle.lt_image.specs.Opening.{log_items}
+use Rattle.lt_format.specs.Snapshot.{Named}
+use Rattle.lt_image.specs.Versions.{log_items}
 use Rattle.lt_tables.specs.Filter.{covers}
 use Rattle.std.specs.List.{AllByRecursion}
-use Rattle.lt_store.specs.Open.{StoreView, root_pile}
+use Rattle.lt_store.specs.Open.{StoreView}
 use Rattle.lt_store.proofs.AnswerLaws.{finds}
 
 -- ---- one table

@@ -3,20 +3,18 @@ use Rattle.std.proofs.Common.{◌≡◌, ℕ, ◌<◌, refl, sym, ap, subst, ◌
 use Rattle.std.specs.Prelude.{IsTrue, nat_le, ◌==◌, ◌||◌}
 use Rattle.std.specs.List.{AllByRecursion}
 use Rattle.std.proofs.lemmas.Bool.{and_parts, leb-true, eqb-true}
-use Rattle.lt_terms.specs.Bytes.{Image}
+use Rattle.lt_terms.specs.Bytes.{Image, is_in}
 use Rattle.lt_terms.specs.Items.{Item}
-use Rattle.lt_terms.specs.Numbers.{is_in}
 use Rattle.lt_tables.specs.Bucket.{bucket_of}
-use Rattle.lt_format.specs.Naming.{Named}
+use Rattle.lt_format.specs.Snapshot.{Named}
 use Rattle.lt_format.specs.Trie.{named, node_at, root}
 use Rattle.lt_htable.specs.Reading.{IsNoBucket}
 use Rattle.lt_image.proofs.ChangeLaws.{path-root}
 use Rattle.lt_image.proofs.MapLaws.{named-tables}
 use Rattle.lt_redo.specs.LogState.{LogState}
-use Rattle.lt_store.specs.Promise.{StopsGet}
+use Rattle.lt_store.specs.Promise.{StopsGet, root_pile}
 use Rattle.lt_store.specs.Getting.{IsBucketOf}
 use Rattle.lt_store.specs.Kept.{IsKept}
-use Rattle.lt_store.specs.Open.{root_pile}
 use Rattle.lt_store.proofs.FilterLaws.{below_all}
 
 all_in : (P : ℕ → Type 0) (xs : List ℕ) (x : ℕ) → AllByRecursion P xs → is_in x xs ≡ true → P x

@@ -1,6 +1,7 @@
 -- Events of a store, and the steps of the map machine that they are.
 use Rattle.std.specs.Prelude.{◌≡◌, ℕ, Bool, true, false, List, [], take, Option, Some, None, Result, Ok, Err, IsTrue}
 use Rattle.lt_terms.specs.Items.{Item, is_key, is_valid, put_of, delete_of}
+use Rattle.lt_image.specs.Standing.{after_writes}
 use Rattle.lt_language.specs.Commands as commands
 use Rattle.lt_language.specs.Commands.{Command}
 use Rattle.lt_language.specs.Machine.{State, Step, found}
@@ -15,12 +16,12 @@ use Rattle.lt_store.specs.declared.faults.WriteFault.TheVariants as writes
 use Rattle.lt_store.specs.declared.writing.Taken.TheVariants as taken
 use Rattle.lt_htable.specs.declared.faults.LookFault.{LookFault}
 use Rattle.lt_htable.specs.declared.faults.LookFault.TheVariants.{Damaged}
-use Rattle.lt_format.specs.Naming.{Named}
-use Rattle.lt_tables.specs.Merge.{value_of}
+use Rattle.lt_format.specs.Snapshot.{Named}
+use Rattle.lt_tables.specs.Table.{value_of}
 use Rattle.lt_terms.specs.Bytes.{Image}
-use Rattle.lt_store.specs.Promise.{StopsGet}
+use Rattle.lt_store.specs.Promise.{IsReplyTo, StopsGet, RepliesSeen}
 use Rattle.lt_store.specs.Getting.{KeepsRest, asked}
-use Rattle.lt_store.specs.Open.{StoreView}
+use Rattle.lt_store.specs.Open.{StoreView, extents_of, state_of}
 use Rattle.lt_store.specs.Taking.{accepted_by}
 
 -- the command that an event is; a commit is none
@@ -71,6 +72,19 @@ IsStep e s (Some command) (Some reply) s' = Step e s command reply s'
 IsStep e s None None s' = s' ≡ s
 IsStep e s command reply s' = ⊥
 
+-- an event with its outcome is a step of the map machine, from the state that the store answers for to that with
+-- the write that was taken
+abbrev pub IsStepOf : StoreView → State → EventView → Outcome → List ℕ → Type 0
+IsStepOf v durable event outcome page =
+    IsStep (extents_of v) (state_of v durable) (command_of event) (reply_of outcome page)
+    (after_writes (state_of v durable) (accepted_as outcome (write_of event)))
+
+-- a command has a reply of its kind, and a commit has none
+abbrev pub IsKind : Option Command → Option Reply → Type 0
+IsKind (Some command) (Some reply) = IsReplyTo command reply
+IsKind None None = Unit {0}
+IsKind command reply = ⊥
+
 -- the page stays as it is, but for a value
 abbrev pub KeepsOut : Result Outcome WriteFault → List ℕ → List ℕ → Type 0
 KeepsOut (Ok (outcomes.Value n)) old new = KeepsRest (Some n) old new
@@ -80,12 +94,6 @@ KeepsOut result old new = new ≡ old
 abbrev pub asked_by : StoreView → EventView → ℕ
 asked_by v (events.Get key) = asked v key.now
 asked_by v event = 0
-
--- a get's reply, where the key is seen like this: the value of the item, or none; a block that spells no
--- bucket has no reply
-abbrev pub RepliesSeen : Result (Option Item) LookFault → Option Reply → Type 0
-RepliesSeen (Ok item) reply = reply ≡ Some (found (value_of item))
-RepliesSeen (Err fault) reply = ⊥
 
 -- what a get's event answers, where the key is seen like this: the reply, or the block that spells no bucket,
 -- unless the device failed

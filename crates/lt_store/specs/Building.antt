@@ -1,8 +1,7 @@
 -- Tables that are written into extents, and the filters of them that are kept.
 use Rattle.std.specs.Prelude.{◌≡◌, ℕ, ◌+◌, ◌<◌, ◌≤◌, List, Option, Some, None, slice_index_or, IsTrue}
-use Rattle.lt_terms.specs.Bytes.{Image}
+use Rattle.lt_terms.specs.Bytes.{Image, is_in}
 use Rattle.lt_terms.specs.Items.{Item}
-use Rattle.lt_terms.specs.Numbers.{is_in}
 use Rattle.lt_tables.specs.Table.{IsPlaced}
 use Rattle.lt_format.specs.declared.geometry.Geometry.{Geometry}
 use Rattle.lt_format.specs.Layout.{extent_block, extent_blocks}

@@ -1,9 +1,14 @@
 -- The numbers that a store tells of itself.
-use Rattle.std.specs.Prelude.{ℕ}
+use Rattle.std.specs.Prelude.{ℕ, ◌≤◌, length}
+use Rattle.lt_terms.specs.Bytes.{Image}
+use Rattle.lt_device.specs.declared.device.Device.{Ghosts}
+use Rattle.lt_device.specs.Moments.{MayLeave}
+use Rattle.lt_language.specs.Machine.{State}
 use Rattle.lt_alloc.specs.Extents.{free_count}
 use Rattle.lt_format.specs.Trie.{table_total}
+use Rattle.lt_image.specs.Counts.{HasCounts}
 use Rattle.lt_store.specs.declared.counts.Stat.{Stat}
-use Rattle.lt_store.specs.Open.{StoreView}
+use Rattle.lt_store.specs.Open.{IsOpen, StoreView}
 
 -- the numbers of a store whose device has read this many blocks
 abbrev pub stat_of : StoreView → ℕ → Stat
@@ -13,3 +18,10 @@ stat_of v reads = record {
   tables = table_total v.named.manifest.trie;
   free = free_count v.taken;
 }
+
+-- The tables and free extents that are told are those of each image that a crash may leave. What is durable lacks at
+-- most 818 of the accepted writes, the pending ones.
+pub record TellsImages {T : Type 0} (D : Ghosts T) (v : StoreView) (stat : Stat) (device : T) : Type 0 where
+  pub few : length v.log.pending ≤ 818
+  pub images : (durable : State) → IsOpen v durable (D.state device) → (left : Image)
+      → MayLeave (D.state device) left → HasCounts left stat.tables stat.free

@@ -1,26 +1,25 @@
 -- What a flush does to the store in memory.
-use Rattle.std.specs.Prelude.{◌≡◌, ℕ, ◌<◌, Bool, true, false, List, [], length}
+use Rattle.std.specs.Prelude.{◌≡◌, ℕ, ◌<◌, ◌≤◌, Bool, true, false, List, [], length, IsTrue}
 use Rattle.std.specs.List.{AllByRecursion}
 use Rattle.lt_device.specs.Moments.{Leaves, MayLeave}
 use Rattle.lt_device.specs.State as told
 use Rattle.lt_language.specs.Machine.{State}
-use Rattle.lt_terms.specs.Numbers.{is_in}
+use Rattle.lt_terms.specs.Bytes.{is_in, Image}
 use Rattle.lt_alloc.specs.declared.extents.Short.{Short}
 use Rattle.lt_alloc.specs.Extents.{free_count}
 use Rattle.lt_tables.specs.Cut.{cut, table_total}
-use Rattle.lt_tables.specs.Merge.{newest}
-use Rattle.lt_terms.specs.Bytes.{Image}
+use Rattle.lt_tables.specs.Table.{newest}
 use Rattle.lt_terms.specs.Items.{Item}
 use Rattle.lt_format.specs.declared.header.Header.{Header}
 use Rattle.lt_format.specs.Changes.{flush}
-use Rattle.lt_format.specs.Naming.{Named, after_commit}
-use Rattle.lt_format.specs.Trie.{named}
+use Rattle.lt_format.specs.Snapshot.{Named, after_commit}
+use Rattle.lt_format.specs.Trie.{all_distinct, named}
 use Rattle.lt_redo.specs.LogState.{LogState, idle_log, other_area}
 use Rattle.lt_redo.specs.Slots.{HasLog}
 use Rattle.lt_image.specs.After.{PlacedIn}
 use Rattle.lt_image.specs.Standing.{Stands}
 use Rattle.lt_store.specs.Building.{KeepsFilter}
-use Rattle.lt_manifest.specs.Opened as opened
+use Rattle.lt_manifest.specs.Promise as opened
 use Rattle.lt_store.specs.Kept.{IsKept}
 use Rattle.lt_store.specs.Open.{StoreView}
 
@@ -28,15 +27,27 @@ use Rattle.lt_store.specs.Open.{StoreView}
 abbrev pub Stays : State → told.State → told.State → Type 0
 Stays d old new = Leaves (λ left. Stands left d) old new
 
+-- the facts that a store keeps, with these flags of its extents
+abbrev pub KeptWith : StoreView → List Bool → Type 0
+KeptWith v taken = IsKept v.named v.log v.memory taken (length v.kept) v.writes
+
 -- the facts that a store keeps, for some flags of its extents
 pub record SomeKept (v : StoreView) : Type 0 where
   pub taken : List Bool
-  pub kept : IsKept v.named v.log v.memory taken (length v.kept) v.writes
+  pub kept : KeptWith v taken
 
 -- these extents are the store's, and none is named
 pub record AreFree (m : Named) (numbers : List ℕ) : Type 0 where
   pub below : (x : ℕ) → is_in x numbers ≡ true → x < m.manifest.header.extents
   pub unnamed : (x : ℕ) → is_in x numbers ≡ true → is_in x (named m.manifest.trie) ≡ false
+
+-- the store keeps its facts but for the extents, of which these are free and reserved; nothing is pending
+pub record IsReserved (v : StoreView) (numbers : List ℕ) : Type 0 where
+  pub kept : SomeKept v
+  pub idle : v.log.pending ≡ []
+  pub some : 1 ≤ length numbers
+  pub distinct : IsTrue (all_distinct numbers)
+  pub free : AreFree v.named numbers
 
 -- the header after a flush: the other log area, and all writes
 abbrev pub flush_header : StoreView → Header

@@ -1,26 +1,26 @@
 -- What a get finds, and where it looks.
-use Rattle.std.specs.Prelude.{◌≡◌, ℕ, ◌+◌, ◌<◌, Bool, true, false, List, [], ◌∷◌, Option, Some, None, Result}
+use Rattle.std.specs.Prelude.{◌≡◌, ℕ, ◌+◌, ◌*◌, ◌<◌, ◌≤◌, Bool, true, false, List, [], ◌∷◌, Option, Some, None, Result}
 use Rattle.std.specs.Prelude.{Ok, Err, length, take, drop, count_by, slice_index, slice_index_or, IsTrue}
-use Rattle.std.specs.Prelude.{if◌then◌else◌}
-use Rattle.std.specs.Option.{option_and_then, option_map_or, is_some}
-use Rattle.lt_terms.specs.Bytes.{Image, block_at, filled}
+use Rattle.std.specs.Prelude.{if◌then◌else◌, IfOk, IsErrOf}
+use Rattle.std.specs.Option.{ForSome, option_and_then, option_map_or, is_some}
+use Rattle.lt_terms.specs.Bytes.{Image, block_at, filled, is_in}
 use Rattle.lt_terms.specs.Items.{Item}
 use Rattle.lt_terms.specs.Hashes.{home_column}
-use Rattle.lt_terms.specs.Numbers.{is_in}
+use Rattle.lt_device.specs.declared.device.Device.{Ghosts}
+use Rattle.lt_device.specs.Reads.{CountsAtMost}
 use Rattle.lt_tables.specs.Bucket.{look_on}
 use Rattle.lt_tables.specs.Filter.{covers}
-use Rattle.lt_tables.specs.Merge.{newest, newest_of, is_put, value_of}
-use Rattle.lt_tables.specs.Table.{IsPlaced}
+use Rattle.lt_tables.specs.Table.{newest, newest_of, is_put, value_of, IsPlaced}
 use Rattle.lt_format.specs.declared.geometry.Geometry.{Geometry}
 use Rattle.lt_format.specs.Layout.{extent_block}
 use Rattle.lt_htable.specs.declared.faults.LookFault.{LookFault}
 use Rattle.lt_htable.specs.declared.faults.LookFault.TheVariants.{Device, Damaged}
-use Rattle.lt_htable.specs.Reading.{at_home, target_of}
-use Rattle.lt_image.specs.Opening.{Opened, log_items}
-use Rattle.lt_image.specs.Versions.{extent_in, items_at}
+use Rattle.lt_htable.specs.Reading.{IsNoBucket, at_home, target_of}
+use Rattle.lt_image.specs.Versions.{Opened, log_items, extent_in, items_at}
 use Rattle.lt_store.specs.declared.getting.Version.{Version}
 use Rattle.lt_store.specs.declared.getting.Version.TheVariants.{Value, Deleted}
-use Rattle.lt_store.specs.Open.{StoreView, root_pile}
+use Rattle.lt_store.specs.Open.{StoreView}
+use Rattle.lt_store.specs.Promise.{root_pile, before_older, seen}
 
 -- the value of a key is so long and stands at the front of the page, or there is none
 abbrev pub Finds : List ℕ → Option (List ℕ) → Option ℕ → Type 0
@@ -111,45 +111,24 @@ abbrev pub KeepsUnless : Result (Option Version) LookFault → List ℕ → List
 KeepsUnless (Ok version) old new = KeepsRest (value_len version) old new
 KeepsUnless (Err fault) old new = new ≡ old
 
--- what the page of a key's home bucket, and where it sends the key that of the target, answer on it; the
--- block, where such a page spells no bucket
-abbrev pub seen_in : Image → ℕ → List ℕ → Result (Option Item) LookFault
-seen_in image first key =
-    let home = look_on (block_at image (first + home_column key)) key in
-    at_home first (home_column key) home
-    (option_and_then (λ column. look_on (block_at image (first + column)) key) (target_of home))
+-- where the table at a place of a pile holds the key, no table before that place is asked
+abbrev pub StopsAsking : {T : Type 0} → Ghosts T → Geometry → List (Option (List ℕ)) → List ℕ → List ℕ → Image → T → T
+    → Type 0
+StopsAsking D g kept key tables image old new = (j : ℕ) → HoldsKey g image key tables j
+    → CountsAtMost (2 * asked_from kept key tables j) (D.reads old) (D.reads new)
 
--- the filter of the table in an extent covers the key, as the image has it
-abbrev pub is_covered : Geometry → Image → List ℕ → ℕ → Bool
-is_covered g image key x = covers (extent_in g image x 64) (home_column key) key
-
--- what is seen of a key in one table: none where the table does not pass the test, as its filter does not
--- cover the key
-abbrev pub seen_at : Geometry → (ℕ → Bool) → Image → List ℕ → ℕ → Result (Option Item) LookFault
-seen_at g holds image key x = if holds x then seen_in image (extent_block g x) key else Ok None
-
--- the newer answer, where it is an item or a block; else the older one
-abbrev pub before_older : Result (Option Item) LookFault → Result (Option Item) LookFault
-    → Result (Option Item) LookFault
-before_older (Ok None) older = older
-before_older newer older = newer
-
--- what is seen of a key in the tables of a pile that pass the test: the newest that has an item of it
--- decides, or one whose page spells no bucket
-abbrev pub seen : Geometry → (ℕ → Bool) → Image → List ℕ → List ℕ → Result (Option Item) LookFault
-seen g holds image key [] = Ok None
-seen g holds image key (x ∷ newer) = before_older (seen g holds image key newer) (seen_at g holds image key x)
+-- whatever the pages hold: a value has 3,000 bytes at most, the page keeps what is no value, and a block that is
+-- answered spells no bucket
+pub record IsFound (shown : Option Image) (answer : Result (Option Version) LookFault)
+    (old new : List ℕ) : Type 0 where
+  pub short : IfOk answer (λ version. ForSome (value_len version) (λ n. n ≤ 3000))
+  pub page : KeepsUnless answer old new
+  pub damaged : (b : ℕ) → IsErrOf answer (Damaged b) → IsNoBucket shown b
 
 -- what a store sees of a key: its memory table is newer than the root's tables, whose filters it keeps
 abbrev pub seen_of : StoreView → Image → List ℕ → Result (Option Item) LookFault
 seen_of v image key = before_older (Ok (newest_of key v.memory))
     (seen v.named.geometry (may_hold v.kept key) image key (root_pile v.named.manifest.trie))
-
--- what is seen of a key on an image as it opens: its log is newer than the root's tables
-abbrev pub seen_on : Opened → Image → List ℕ → Result (Option Item) LookFault
-seen_on o image key = before_older (Ok (newest_of key (log_items o)))
-    (seen o.named.geometry (is_covered o.named.geometry image key) image key
-    (root_pile o.named.manifest.trie))
 
 -- the answer is this fault, or that the device failed
 abbrev pub IsFaultOf : {T : Type 0} → LookFault → Result T LookFault → Type 0

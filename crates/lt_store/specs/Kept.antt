@@ -1,11 +1,11 @@
 -- What a store keeps in memory, and the facts of it that hold whatever its device tells.
-use Rattle.std.specs.Prelude.{◌≡◌, ℕ, ◌+◌, ◌-◌, ◌<◌, ◌≤◌, Bool, List, ◌++◌, length, take, IsTrue}
+use Rattle.std.specs.Prelude.{◌≡◌, ℕ, ◌+◌, ◌-◌, ◌*◌, ◌<◌, ◌≤◌, Bool, List, ◌++◌, length, take, IsTrue}
 use Rattle.lt_terms.specs.Items.{Item, total_cost}
 use Rattle.lt_alloc.specs.Extents.{AreTaken}
 use Rattle.lt_format.specs.Log.{group_room, log_fits}
-use Rattle.lt_format.specs.Naming.{Named}
+use Rattle.lt_format.specs.Snapshot.{Named}
 use Rattle.lt_format.specs.Trie.{named}
-use Rattle.lt_manifest.specs.Opened as opened
+use Rattle.lt_manifest.specs.Promise as opened
 use Rattle.lt_redo.specs.LogState.{LogState}
 
 -- how many of the items in the memory table stand in the log's groups; the others are pending
@@ -17,8 +17,9 @@ abbrev pub logged : LogState → List Item → List Item
 logged log memory = take (logged_count log memory) memory
 
 -- The log is that of the manifest; the memory table is the log's items and the pending ones, and fits; the
--- number of writes counts them all; each group has an item; a group that is open has a slot; the extents that
--- are taken are those that the manifest names, and there is a place for the filters of each.
+-- number of writes counts them all; each group has an item; a group that is open has a slot and room for its items, of
+-- which each costs 5 bytes or more; the extents that are taken are those that the manifest names, and there is a place
+-- for the filters of each.
 pub record IsKept (n : Named) (log : LogState) (memory : List Item) (taken : List Bool)
     (filters writes : ℕ) : Type 0 where
   pub manifest : opened.IsKept n
@@ -32,5 +33,6 @@ pub record IsKept (n : Named) (log : LogState) (memory : List Item) (taken : Lis
   pub within : log.slots ≤ n.geometry.slots
   pub slot : 0 < length log.pending → log.slots < n.geometry.slots
   pub room : total_cost log.pending ≤ group_room
+  pub least : 5 * length log.pending ≤ total_cost log.pending
   pub taken_named : AreTaken n.manifest.header.extents (named n.manifest.trie) taken
   pub filters_len : filters ≡ n.manifest.header.extents

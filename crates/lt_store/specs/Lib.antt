@@ -1,5 +1,6 @@
 pub mod Acting
 pub mod Building
+pub mod Calls
 pub mod Committing
 pub mod Counts
 pub mod Faults

@@ -6,13 +6,13 @@ use Rattle.lt_device.specs.State as told
 use Rattle.lt_language.specs.Machine.{State}
 use Rattle.lt_format.specs.Layout.{blocks_needed}
 use Rattle.lt_format.specs.Log.{items_in}
-use Rattle.lt_format.specs.Naming.{Named}
+use Rattle.lt_format.specs.Snapshot.{Named}
 use Rattle.lt_format.specs.Trie.{Trie, root, node_at}
 use Rattle.lt_redo.specs.LogState.{LogState}
 use Rattle.lt_redo.specs.Slots.{HasLog}
 use Rattle.lt_image.specs.Standing.{after_writes}
 use Rattle.lt_store.specs.Building.{KeepsFilter}
-use Rattle.lt_store.specs.Promise.{AtRest, IsRootOnly}
+use Rattle.lt_store.specs.Promise.{AtRest, IsRootOnly, root_pile}
 
 -- a store as its calls see it; `kept` has the filter blocks of tables, by extent
 pub record StoreView : Type 0 where
@@ -23,10 +23,6 @@ pub record StoreView : Type 0 where
   pub taken : List Bool
   pub kept : List (Option (List ℕ))
   pub writes : ℕ
-
--- the tables of the root
-abbrev pub root_pile : Trie → List ℕ
-root_pile trie = (node_at trie root).tables
 
 -- The store is open on a device at rest for the state `durable`, which its manifest and the groups of its log
 -- make; the memory table has their items and the pending ones, and the filters in memory are those of the

@@ -1,23 +1,43 @@
 -- What opening a store reads of an image, and where it may find damage.
-use Rattle.std.specs.Prelude.{◌≡◌, ℕ, ◌+◌, ◌<◌, true, false, List, Option, None, length, IsTrue}
+use Rattle.std.specs.Prelude.{◌≡◌, ℕ, ◌+◌, ◌<◌, ◌≤◌, true, false, List, Option, None, Result, length, IsTrue}
 use Rattle.std.specs.Prelude.{slice_index_or, Ok}
-use Rattle.std.specs.List.{AllByRecursion}
-use Rattle.lt_terms.specs.Bytes.{Image}
-use Rattle.lt_terms.specs.Items.{Item}
-use Rattle.lt_terms.specs.Numbers.{is_in}
+use Rattle.std.specs.List.{AllByRecursion, list_all}
+use Rattle.lt_terms.specs.Bytes.{Image, is_in}
+use Rattle.lt_terms.specs.Items.{Item, is_valid}
 use Rattle.lt_alloc.specs.Extents.{AreTaken}
 use Rattle.lt_format.specs.declared.geometry.Geometry.{Geometry}
 use Rattle.lt_format.specs.Layout.{is_geometry, extent_block}
-use Rattle.lt_format.specs.Naming.{Named}
+use Rattle.lt_format.specs.Log.{log_fits, log_groups}
+use Rattle.lt_format.specs.Snapshot.{Named}
 use Rattle.lt_format.specs.Trie.{named}
-use Rattle.lt_image.specs.Opening.{Opened, open_image, log_items, number_of}
+use Rattle.lt_image.specs.Versions.{Opened, open_image, log_items, number_of}
 use Rattle.lt_redo.specs.LogState.{LogState, idle_log}
+use Rattle.lt_redo.specs.Opening.{HasItems}
 use Rattle.lt_store.specs.Building.{KeepsFilter}
-use Rattle.lt_store.specs.Open.{StoreView, root_pile}
+use Rattle.lt_store.specs.Open.{StoreView}
+use Rattle.lt_store.specs.Promise.{root_pile}
 
 -- the log that a manifest names, with this many groups and nothing pending
 abbrev pub log_at : Named → ℕ → LogState
 log_at n slots = idle_log n.geometry n.manifest.header.log_area n.manifest.header.writes slots
+
+-- The log is the one that a manifest names, with nothing pending; its items are valid and fit it, and each of its
+-- groups has one.
+pub record IsLogOf (n : Named) (log : LogState) (items : List Item) : Type 0 where
+  pub is : log ≡ log_at n log.slots
+  pub slots : log.slots ≤ n.geometry.slots
+  pub enough : log.slots ≤ length items
+  pub valid : IsTrue (list_all is_valid items)
+  pub fits : IsTrue (log_fits n.manifest.header.writes items)
+
+-- the groups of the log that a manifest names, or the first block of it that does not stand
+abbrev pub groups_of : Named → Image → Result (List (List Item)) ℕ
+groups_of n image = log_groups n.geometry image n.manifest.header.log_area n.manifest.header.writes
+
+-- that log has so many groups on the image, of these items
+abbrev pub HasItemsOf : Named → ℕ → List Item → Image → Type 0
+HasItemsOf n slots items image =
+    HasItems n.geometry n.manifest.header.log_area n.manifest.header.writes slots items image
 
 -- Exactly the filter blocks of these tables are kept.
 pub record KeepsFilters (g : Geometry) (kept : List (Option (List ℕ))) (tables : List ℕ)

@@ -1,15 +1,19 @@
 -- What a write that was taken leaves, and when one is refused for want of extents.
-use Rattle.std.specs.Prelude.{◌≡◌, ℕ, ◌+◌, ◌<◌, Bool, ◌&&◌, ◌||◌, List, [], ◌∷◌, IsTrue, nat_le, nat_lt, ◌==◌}
+use Rattle.std.specs.Prelude.{◌≡◌, ℕ, ◌+◌, ◌*◌, ◌<◌, Bool, ◌&&◌, ◌||◌, List, [], ◌∷◌, IsTrue, nat_le, nat_lt, ◌==◌}
 use Rattle.std.specs.Prelude.{length, if◌then◌else◌}
+use Rattle.lt_terms.specs.Bytes.{Image}
 use Rattle.lt_terms.specs.Items.{Item, total_cost}
+use Rattle.lt_device.specs.Moments.{MayLeave}
+use Rattle.lt_device.specs.State as told
 use Rattle.lt_tables.specs.Cut.{table_total}
-use Rattle.lt_tables.specs.Merge.{newest}
+use Rattle.lt_tables.specs.Table.{newest}
 use Rattle.lt_alloc.specs.Extents.{free_count}
 use Rattle.lt_format.specs.Log.{group_room}
+use Rattle.lt_image.specs.Counts.{IsFullImage}
 use Rattle.lt_store.specs.declared.writing.Taken.{Taken}
 use Rattle.lt_store.specs.declared.writing.Taken.TheVariants as taken
 use Rattle.lt_store.specs.Committing.{committed}
-use Rattle.lt_store.specs.Open.{StoreView}
+use Rattle.lt_store.specs.Open.{StoreView, extents_of}
 
 -- the write, where it was taken
 abbrev pub accepted_by : Item → Taken → List Item
@@ -26,6 +30,11 @@ is_due v = length v.log.pending == 0 && (v.log.slots == v.named.geometry.slots |
 abbrev pub readied : StoreView → ℕ → StoreView
 readied v cost = if nat_le (total_cost v.log.pending + cost) group_room && nat_le
     (total_cost v.memory) 200000 then v else committed v
+
+-- each image that a crash may leave is full, with these numbers, and the extents are fewer than twice the writes
+abbrev pub LeavesFull : StoreView → told.State → ℕ → ℕ → Type 0
+LeavesFull v device needed free =
+    ((left : Image) → MayLeave device left → IsFullImage left needed free) × (extents_of v < 2 * v.writes)
 
 -- a flush is due, and gives more tables than extents are free
 pub record IsFull (v : StoreView) (needed free : ℕ) : Type 0 where

@@ -1,10 +1,9 @@
 -- What becomes of a put or a delete.
-use Rattle.std.specs.Prelude.{◌≡◌, ◌≢◌, ℕ, ◌+◌, ◌*◌, ◌<◌, ◌≤◌, true, false, Option, IfSome, [], length}
-use Rattle.lt_terms.specs.Bytes.{Image}
+use Rattle.std.specs.Prelude.{◌≡◌, ◌≢◌, ℕ, ◌+◌, ◌≤◌, true, false, Option, IfSome, [], length}
 use Rattle.lt_terms.specs.Causes.{Rose}
 use Rattle.lt_terms.specs.Items.{Item, item_cost, total_cost}
 use Rattle.lt_device.specs.declared.device.Device.{Ghosts}
-use Rattle.lt_device.specs.Moments.{Leaves, MayLeave}
+use Rattle.lt_device.specs.Moments.{Leaves}
 use Rattle.lt_format.specs.Log.{group_room}
 use Rattle.lt_language.specs.Machine.{State, most_writes}
 use Rattle.lt_store.specs.declared.faults.WriteFault.{WriteFault}
@@ -15,8 +14,7 @@ use Rattle.lt_store.specs.Flushing.{IsFlushed}
 use Rattle.lt_store.specs.Going.{Goes, appended}
 use Rattle.lt_store.specs.Open.{IsOpen, SameRegions, StoreView}
 use Rattle.lt_store.specs.Promise.{IsRooted}
-use Rattle.lt_image.specs.Counts.{IsFullImage}
-use Rattle.lt_store.specs.Taking.{accepted_by, is_due, readied}
+use Rattle.lt_store.specs.Taking.{LeavesFull, accepted_by, is_due, readied}
 
 -- The item was put or deleted in the store `v`, which is `w` now; `answered` and `failed` say what the call
 -- answered. At the limit nothing has changed. Else the open group was committed where the item has no room in
@@ -42,9 +40,7 @@ pub record Writes {T : Type 0} (D : Ghosts T) (item : Item) (v w : StoreView) (a
   pub refused : failed NoMemory → (durable : State) → IsOpen v durable (D.state old)
       → Goes v [] w durable (D.state old) (D.state new)
   pub full_images : (needed free : ℕ) → answered (Full needed free) → (durable : State)
-      → IsOpen v durable (D.state old)
-      → ((left : Image) → MayLeave (D.state new) left → IsFullImage left needed free)
-      × (v.named.manifest.header.extents < 2 * v.writes)
+      → IsOpen v durable (D.state old) → LeavesFull v (D.state new) needed free
 
 -- What holds of a call only while no table lies below the root, since a write never moves tables down then;
 -- `written` is the item that it writes, if any. A flush adds tables to the root and changes nothing else of

@@ -1,34 +1,21 @@
 //! The calls of a store as events.
 
-ghost use Rattle.std.specs.Prelude.{IfSome};
-ghost use Rattle.std.specs.Prelude.{◌≡◌, ◌≢◌, ◌↔◌, ℕ, List, ◌+◌, ◌*◌, ◌<◌, ◌≤◌, true, false, []};
-ghost use Rattle.std.specs.Prelude.{Ok, Some, IfOk, IsErrOf, IsSome, IsTrue, OnErr, OnOk, length};
+ghost use Rattle.std.specs.Prelude.{IfSome, ◌≡◌, ◌↔◌, ℕ, List, ◌*◌, ◌≤◌, true, false, [], Ok, Some, IfOk, IsErrOf};
+ghost use Rattle.std.specs.Prelude.{IsSome, IsTrue, OnErr, OnOk};
 ghost use Rattle.lt_terms.specs.Bytes.{Image};
 ghost use Rattle.lt_terms.specs.Causes.{Rose};
-ghost use Rattle.lt_terms.specs.Items as terms;
-ghost use Rattle.lt_terms.specs.Items.{item_cost, total_cost};
-ghost use Rattle.lt_device.specs.Moments.{Leaves, MayLeave};
 ghost use Rattle.lt_device.specs.Reads.{CountsAtMost};
-ghost use Rattle.lt_format.specs.Log.{group_room};
-ghost use Rattle.lt_image.specs.Counts.{HasCounts};
-ghost use Rattle.lt_image.specs.Standing.{after_writes};
 ghost use Rattle.lt_language.specs.Commands as commands;
-ghost use Rattle.lt_language.specs.Machine.{State, most_writes};
-ghost use Rattle.lt_store.specs.Acting.{IsStep, IsStopped, KeepsOut, MayAct, TellsSeen};
-ghost use Rattle.lt_store.specs.Acting.{accepted_as, asked_by, command_of, only_asks, reply_of};
-ghost use Rattle.lt_store.specs.Acting.{write_of};
-ghost use Rattle.lt_store.specs.Committing.{StandsForEither, committed};
-ghost use Rattle.lt_store.specs.Counts.{stat_of};
-ghost use Rattle.lt_store.specs.Flushing.{IsFlushed};
+ghost use Rattle.lt_language.specs.Machine.{most_writes};
+ghost use Rattle.lt_store.specs.Acting.{IsStopped, KeepsOut, MayAct, TellsSeen, accepted_as, asked_by, command_of};
+ghost use Rattle.lt_store.specs.Acting.{only_asks, reply_of, write_of, IsKind, IsStepOf};
+ghost use Rattle.lt_store.specs.Committing.{committed};
+ghost use Rattle.lt_store.specs.Counts.{stat_of, TellsImages};
 ghost use Rattle.lt_store.specs.Getting.{seen_of};
-ghost use Rattle.lt_store.specs.Going.{Goes, Survives, appended};
-ghost use Rattle.lt_store.specs.Open.{SameRegions, IsOpen, StoreView, blocks_of, extents_of};
-ghost use Rattle.lt_store.specs.Open.{root_pile, state_of};
-ghost use Rattle.lt_store.specs.Promise.{IsRooted};
-ghost use Rattle.lt_image.specs.Counts.{IsFullImage};
-ghost use Rattle.lt_store.specs.Taking.{is_due, readied, IsFull};
+ghost use Rattle.lt_store.specs.Open.{SameRegions, blocks_of};
+ghost use Rattle.lt_store.specs.Taking.{IsFull};
 ghost use Rattle.lt_store.specs.View.{view_of};
-ghost use Rattle.lt_store.specs.Writing.{WhileRooted, Writes};
+ghost use Rattle.lt_store.specs.Calls.{EventRooted, EventWritten, GoesOn, KeepsGroup, LosesNothing, WhereOpen};
 
 use crate::counts::Stat;
 use crate::faults::WriteFault;
@@ -76,58 +63,45 @@ impl Store {
         requires within { blocks_of (view_of self.old) ≤ D.blocks device.old }
 
         // The command and its outcome are a step of the map machine.
-        ensures step { IfOk result (λ outcome. (durable : State)
-            → IsOpen (view_of self.old) durable (D.state device.old)
-            → IsStep (extents_of (view_of self.old)) (state_of (view_of self.old) durable)
-            (command_of event.entry) (reply_of outcome out.new)
-            (after_writes (state_of (view_of self.old) durable)
-            (accepted_as outcome (write_of event.entry)))) }
+        ensures step { IfOk result (λ outcome. WhereOpen D.Device self.old device.old
+            (λ durable. IsStepOf (view_of self.old) durable event.entry outcome out.new)) }
+
+        // Whatever the device tells, the reply is of its command's kind.
+        ensures kind { IfOk result (λ outcome.
+            IsKind (command_of event.entry) (reply_of outcome out.new)) }
 
         // The store goes on, with the write that was taken; and whatever it answers, nothing is lost at any moment.
-        ensures goes { IfOk result (λ outcome. (durable : State)
-            → IsOpen (view_of self.old) durable (D.state device.old)
-            → Goes (view_of self.old) (accepted_as outcome (write_of event.entry))
-            (view_of self.new) durable (D.state device.old) (D.state device.new)) }
-        ensures goes_on { OnErr result (self.new.is_up ≡ true → (durable : State)
-            → IsOpen (view_of self.old) durable (D.state device.old)
-            → Goes (view_of self.old) [] (view_of self.new) durable (D.state device.old)
-            (D.state device.new)) }
-        ensures broken { OnErr result ((durable : State)
-            → IsOpen (view_of self.old) durable (D.state device.old)
-            → Survives (view_of self.old) [] durable (D.state device.old) (D.state device.new)) }
+        ensures goes { IfOk result (λ outcome. GoesOn D.Device self.old
+            (accepted_as outcome (write_of event.entry)) self.new device.old device.new) }
+        ensures goes_on { OnErr result (self.new.is_up ≡ true
+            → GoesOn D.Device self.old [] self.new device.old device.new) }
+        ensures broken { OnErr result (LosesNothing D.Device self.old device.old device.new) }
 
         // The open group is there as a whole, or not at all.
-        ensures whole { (durable : State) → IsOpen (view_of self.old) durable (D.state device.old)
-            → Leaves (StandsForEither durable (state_of (view_of self.old) durable))
-            (D.state device.old) (D.state device.new) }
+        ensures whole { KeepsGroup D.Device self.old device.old device.new }
 
         ensures committed { command_of event.entry ≡ None
             → OnOk result (view_of self.new ≡ committed (view_of self.old)) }
         ensures asked { IsTrue (only_asks event.entry) → (view_of self.new ≡ view_of self.old)
             × (D.state device.new ≡ D.state device.old) }
         ensures limit { (result ≡ Ok (Outcome.Taken Taken.Limit)) ↔ (IsSome (write_of event.entry)
-            × ((view_of self.old).writes ≡ most_writes)) }
+            × (self.old.writes ≡ most_writes)) }
         ensures full { (needed free : ℕ) → result ≡ Ok (Outcome.Taken (Taken.Full needed free))
             → IsFull (view_of self.new) needed free }
 
         // A put or a delete.
-        ensures writes { IfSome (write_of event.entry)
-            (λ item. Writes D.Device item (view_of self.old) (view_of self.new)
-            (λ answer. result ≡ Ok (Outcome.Taken answer)) (λ fault. IsErrOf result fault)
-            device.old device.new) }
-        ensures while_rooted { WhileRooted D.Device (write_of event.entry) (view_of self.old)
-            (view_of self.new)
-            (λ answer. result ≡ Ok (Outcome.Taken answer)) (λ fault. IsErrOf result fault)
+        ensures writes { IfSome (write_of event.entry) (λ item.
+            EventWritten D.Device item self.old self.new result device.old device.new) }
+        ensures while_rooted { EventRooted D.Device (write_of event.entry) self.old self.new result
             device.old device.new }
 
-        ensures idle { command_of event.entry ≡ None → (view_of self.old).log.pending ≡ []
+        ensures idle { command_of event.entry ≡ None → self.old.log.pending ≡ []
             → (result ≡ Ok Outcome.Committed) × (device.new ≡ device.old) }
         // The numbers of the store and its device at this moment, and those of each image that a crash may leave.
         ensures stat { (s : Stat) → result ≡ Ok (Outcome.Stat s)
             → s ≡ stat_of (view_of self.old) (D.reads device.old) }
         ensures stat_images { (s : Stat) → result ≡ Ok (Outcome.Stat s)
-            → (durable : State) → IsOpen (view_of self.old) durable (D.state device.old)
-            → (left : Image) → MayLeave (D.state device.old) left → HasCounts left s.tables s.free }
+            → TellsImages D.Device (view_of self.old) s device.old }
         ensures page { KeepsOut result out.old out.new }
 
         // Whatever the blocks hold, a get answers what it sees of the key, or the block that spells no bucket.
@@ -138,10 +112,9 @@ impl Store {
         ensures value { (n : ℕ) → result ≡ Ok (Outcome.Value n) → n ≤ 3000 }
         ensures memory { IsErrOf result WriteFault.NoMemory → IsSome (write_of event.entry) }
         ensures damaged { (b : ℕ) → IsErrOf result (WriteFault.Damaged b)
-            → IsStopped (view_of self.old).named (D.state device.new).shown event.entry b }
-        ensures sound { (b : ℕ) (durable : State)
-            → IsOpen (view_of self.old) durable (D.state device.old)
-            → IsErrOf result (WriteFault.Damaged b) → ⊥ }
+            → IsStopped self.old.manifest (D.state device.new).shown event.entry b }
+        ensures sound { (b : ℕ) → WhereOpen D.Device self.old device.old
+            (λ _. IsErrOf result (WriteFault.Damaged b) → ⊥) }
         ensures cause { IsErrOf result WriteFault.Device
             → Rose (D.faults device.old) (D.faults device.new) }
         ensures later { D.faults device.old ≤ D.faults device.new }

@@ -1,15 +1,13 @@
 //! Tables of the root, written into free extents.
 
-ghost use Rattle.std.specs.Prelude.{◌≡◌, false, ℕ, ◌+◌, ◌<◌, ◌≤◌, None, OnOk, IsErrOf, IsTrue};
-ghost use Rattle.std.specs.Prelude.{length, map, All, Some, vec_len, slice_index_or};
+ghost use Rattle.std.specs.Prelude.{◌≡◌, false, ℕ, ◌≤◌, None, OnOk, IsErrOf, IsTrue, length, map, All, Some};
+ghost use Rattle.std.specs.Prelude.{slice_index_or};
 ghost use Rattle.std.specs.List.{AllZip};
-ghost use Rattle.lt_terms.specs.Bytes.{Image};
-ghost use Rattle.lt_terms.specs.Causes.{Rose};
+ghost use Rattle.lt_terms.specs.Bytes.{Image, is_in};
 ghost use Rattle.lt_device.specs.Calls.{OnlyWrites};
 ghost use Rattle.lt_device.specs.Moments.{ConfinedTo, ShowsSameOutside};
 ghost use Rattle.lt_format.specs.Layout.{blocks_needed};
 ghost use Rattle.lt_format.specs.Trie.{all_distinct, all_below};
-ghost use Rattle.lt_terms.specs.Numbers.{is_in};
 ghost use Rattle.lt_htable.specs.Cutting.{IsPart};
 ghost use Rattle.lt_store.specs.Building.{InExtents, HasTable};
 

@@ -1,16 +1,11 @@
 //! Making writes durable.
 
-ghost use Rattle.std.specs.Prelude.{IsErr};
-ghost use Rattle.std.specs.Prelude.{◌≡◌, ◌≤◌, ◌<◌, true, false, [], OnOk, OnErr, IsOk, length};
-ghost use Rattle.lt_terms.specs.Causes.{HasCause};
+ghost use Rattle.std.specs.Prelude.{IsErr, ◌≡◌, ◌≤◌, true, false, [], OnOk, OnErr, IsOk};
 ghost use Rattle.lt_device.specs.Calls.{OnlyWrites};
-ghost use Rattle.lt_device.specs.Moments.{Leaves};
-ghost use Rattle.lt_language.specs.Machine.{State};
-ghost use Rattle.lt_store.specs.Open.{IsOpen, blocks_of, state_of};
-ghost use Rattle.lt_store.specs.Promise.{IsRooted};
-ghost use Rattle.lt_store.specs.Going.{Goes, Survives};
+ghost use Rattle.lt_store.specs.Open.{blocks_of};
 ghost use Rattle.lt_store.specs.View.{view_of};
-ghost use Rattle.lt_store.specs.Committing.{StandsForEither, committed};
+ghost use Rattle.lt_store.specs.Committing.{committed};
+ghost use Rattle.lt_store.specs.Calls.{GoesOn, KeepsGroup, LosesNothing, StaysRooted};
 
 use crate::store::Store;
 use lt_device::Device;
@@ -28,21 +23,13 @@ impl Store {
         ensures idle { self.old.log.pending ≡ [] → (IsOk result × (device.new ≡ device.old)) }
 
         // All that was pending is durable; and whatever it answers, nothing is lost at any moment.
-        ensures opened { OnOk result ((durable : State)
-            → IsOpen (view_of self.old) durable (D.state device.old)
-            → Goes (view_of self.old) [] (view_of self.new) durable (D.state device.old)
-            (D.state device.new)) }
-        ensures broken { OnErr result ((durable : State)
-            → IsOpen (view_of self.old) durable (D.state device.old)
-            → Survives (view_of self.old) [] durable (D.state device.old) (D.state device.new)) }
+        ensures opened { OnOk result (GoesOn D.Device self.old [] self.new device.old device.new) }
+        ensures broken { OnErr result (LosesNothing D.Device self.old device.old device.new) }
 
         // The open group is there as a whole, or not at all.
-        ensures whole { (durable : State) → IsOpen (view_of self.old) durable (D.state device.old)
-            → Leaves (StandsForEither durable (state_of (view_of self.old) durable))
-            (D.state device.old) (D.state device.new) }
+        ensures whole { KeepsGroup D.Device self.old device.old device.new }
 
-        ensures rooted { (durable : State) → IsOpen (view_of self.old) durable (D.state device.old)
-            → Leaves IsRooted (D.state device.old) (D.state device.new) }
+        ensures rooted { StaysRooted D.Device self.old device.old device.new }
         ensures calls { OnlyWrites D.Device (IsErr result) device.old device.new }
     {
         match self.log.commit(device) {

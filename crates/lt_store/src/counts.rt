@@ -1,7 +1,7 @@
 //! What a store tells of itself in numbers.
 
 ghost use Rattle.std.specs.Prelude.{◌≡◌, ◌+◌, ◌≤◌, true};
-ghost use Rattle.lt_store.specs.Counts.{stat_of};
+ghost use Rattle.lt_store.specs.Counts.{stat_of, TellsImages};
 ghost use Rattle.lt_store.specs.View.{view_of};
 
 use crate::store::Store;
@@ -22,6 +22,7 @@ impl Store {
     pub fn stat<D: Device>(&self, device: &D) -> Stat
         requires { self.now.is_up ≡ true }
         ensures stat { result ≡ stat_of (view_of self.now) (D.reads device.now) }
+        ensures told { TellsImages D.Device (view_of self.now) result device.now }
         ensures within { result.tables + result.free ≤ self.now.manifest.manifest.header.extents }
     {
         Stat {

@@ -1,31 +1,18 @@
 //! Flushes: the newest items of the memory table become tables of the root.
 
-ghost use Rattle.std.specs.Prelude.{◌≡◌, ℕ, ◌+◌, ◌<◌, ◌≤◌, true, false, Bool, List, [], Ok, Some};
-ghost use Rattle.std.specs.Prelude.{None, All, IfOk, IfSome, IsErrOf, IsOk, IsTrue, ◌||◌, ◌↔◌};
-ghost use Rattle.std.specs.Prelude.{OnOk, length, map};
-ghost use Rattle.lt_terms.specs.Bytes.{Image};
-ghost use Rattle.lt_terms.specs.Causes.{Rose};
-ghost use Rattle.lt_device.specs.Calls.{OnlyWrites};
-ghost use Rattle.lt_device.specs.Moments.{Leaves};
-ghost use Rattle.lt_language.specs.Machine.{State};
-ghost use Rattle.lt_tables.specs.Cut.{cut, table_total};
-ghost use Rattle.lt_tables.specs.Merge.{newest};
-ghost use Rattle.lt_alloc.specs.Extents.{free_count};
-ghost use Rattle.lt_format.specs.Changes.{flush};
-ghost use Rattle.lt_format.specs.Naming.{after_commit};
-ghost use Rattle.lt_format.specs.Trie.{all_distinct};
-ghost use Rattle.lt_manifest.specs.Opened as opened;
-ghost use Rattle.lt_htable.specs.Cutting.{IsPart};
-ghost use Rattle.lt_store.specs.Flushing.{HasCommitted, StaysDown};
-ghost use Rattle.lt_store.specs.Flushing.{AreFree, HasTables, IsFlushed, IsPrepared, IsShort};
-ghost use Rattle.lt_store.specs.Flushing.{SomeKept, Stays, flush_header, flushed};
-ghost use Rattle.lt_alloc.specs.declared.extents.Short.{Short};
+ghost use Rattle.std.specs.Prelude.{◌≡◌, ℕ, ◌<◌, ◌≤◌, true, false, Bool, List, [], Ok, Some, None, All, IsErrOf};
+ghost use Rattle.std.specs.Prelude.{IsTrue, ◌||◌, OnOk, length, map};
+ghost use Rattle.lt_terms.specs.Bytes.{is_in};
+ghost use Rattle.lt_tables.specs.Cut.{cut};
+ghost use Rattle.lt_tables.specs.Table.{newest};
 ghost use Rattle.lt_alloc.specs.Extents.{is_free};
-ghost use Rattle.lt_terms.specs.Numbers.{is_in};
-ghost use Rattle.lt_store.specs.Kept.{IsKept};
-ghost use Rattle.lt_store.specs.Open.{SameRegions, IsOpen, blocks_of, extents_of};
-ghost use Rattle.lt_store.specs.Promise.{IsRooted};
+ghost use Rattle.lt_format.specs.Trie.{all_distinct};
+ghost use Rattle.lt_htable.specs.Cutting.{IsPart};
+ghost use Rattle.lt_store.specs.Flushing.{HasTables, IsShort, Stays, flushed, IsReserved, KeptWith};
+ghost use Rattle.lt_alloc.specs.declared.extents.Short.{Short};
+ghost use Rattle.lt_store.specs.Open.{IsOpen, blocks_of};
 ghost use Rattle.lt_store.specs.View.{view_of};
+ghost use Rattle.lt_store.specs.Calls.{Flushes, Installs, KeepsDurable, LivesOn, StaysOpen, WhereOpen, WherePrepared};
 
 use crate::building::build_tables;
 use crate::faults::FlushFault;
@@ -48,33 +35,18 @@ impl Store {
     ) -> Result<Option<Short>, FlushFault>
         requires up { self.old.is_up ≡ true }
         requires idle { self.old.log.pending ≡ [] }
-        requires some { 0 < length (view_of self.old).memory }
+        requires some { 0 < length self.old.memory }
         requires within { blocks_of (view_of self.old) ≤ D.blocks device.old }
 
-        // Each image since stands for what was durable; and the store is open for that.
-        ensures stays { (durable : State) → IsOpen (view_of self.old) durable (D.state device.old)
-            → Stays durable (D.state device.old) (D.state device.new) }
-        ensures rooted { (durable : State) → IsOpen (view_of self.old) durable (D.state device.old)
-            → Leaves IsRooted (D.state device.old) (D.state device.new) }
-        ensures opened { self.new.is_up ≡ true → (durable : State)
-            → IsOpen (view_of self.old) durable (D.state device.old)
-            → IsOpen (view_of self.new) durable (D.state device.new) }
-
-        ensures flushed { result ≡ Ok None → (durable : State)
-            → IsOpen (view_of self.old) durable (D.state device.old)
-            → IsFlushed (view_of self.old) (view_of self.new) (D.state device.new) }
-        ensures done { result ≡ Ok None → ((view_of self.new).memory ≡ [])
+        ensures lives { LivesOn D.Device self.old self.new result device.old device.new }
+        ensures flushed { result ≡ Ok None
+            → Flushes D.Device self.old self.new device.old device.new }
+        ensures done { result ≡ Ok None → (self.new.memory ≡ [])
             × (self.new.log.slots ≡ 0) × (self.new.log.pending ≡ []) }
         ensures short { (short : Short) → result ≡ Ok (Some short)
-            → IsShort (view_of self.old).memory (view_of self.old).taken short
+            → IsShort self.old.memory self.old.extents short
             × (view_of self.new ≡ view_of self.old) × (device.new ≡ device.old) }
         ensures idle { self.new.is_up ≡ true → self.new.log.pending ≡ [] }
-        ensures up { (self.new.is_up ≡ false) ↔ IsErrOf result FlushFault.Device }
-        ensures writes { self.new.writes ≡ self.old.writes }
-        ensures regions { self.new.is_up ≡ true
-            → SameRegions (view_of self.old) (view_of self.new) }
-        ensures calls { OnlyWrites D.Device (IsErrOf result FlushFault.Device)
-            device.old device.new }
     {
         if let Some(short) = self.refused {
             return Ok(Some(short));
@@ -112,46 +84,26 @@ impl Store {
         numbers: &[u32],
     ) -> Result<(), FlushFault>
         requires down { self.old.is_up ≡ false }
-        requires kept { SomeKept (view_of self.old) }
-        requires idle { self.old.log.pending ≡ [] }
-        requires tables { map (λ table. table.now) tables.now ≡ cut
-            (newest (view_of self.old).memory) }
+        requires reserved { IsReserved (view_of self.old) numbers.now }
+        requires tables { map (λ table. table.now) tables.now ≡ cut (newest self.old.memory) }
         requires parts { All (λ table. IsPart table.now) tables.now }
         requires same_count { length tables.now ≡ length numbers.now }
-        requires some { 1 ≤ length numbers.now }
-        requires distinct { IsTrue (all_distinct numbers.now) }
-        requires free { AreFree (view_of self.old).named numbers.now }
         requires within { blocks_of (view_of self.old) ≤ D.blocks device.old }
 
         // Each image since stands for what was durable; and the store is open as it is then.
-        ensures stays { (durable : State) → IsOpen (view_of self.old) durable (D.state device.old)
-            → Stays durable (D.state device.old) (D.state device.new) }
-        ensures rooted { (durable : State) → IsOpen (view_of self.old) durable (D.state device.old)
-            → Leaves IsRooted (D.state device.old) (D.state device.new) }
-        ensures opened { OnOk result ((durable : State)
-            → IsOpen (view_of self.old) durable (D.state device.old)
-            → IsOpen (view_of self.new) durable (D.state device.new)) }
-        ensures opened_again { IsErrOf result FlushFault.NoMemory → (durable : State)
-            → IsOpen (view_of self.old) durable (D.state device.old)
-            → IsOpen (view_of self.new) durable (D.state device.new) }
+        ensures stays { KeepsDurable D.Device self.old device.old device.new }
+        ensures opened { OnOk result (StaysOpen D.Device self.old self.new device.old device.new) }
+        ensures opened_again { IsErrOf result FlushFault.NoMemory
+            → StaysOpen D.Device self.old self.new device.old device.new }
 
-        ensures tables { OnOk result ((durable : State)
-            → IsOpen (view_of self.old) durable (D.state device.old)
-            → HasTables (view_of self.old) numbers.now (D.state device.new)) }
+        ensures tables { OnOk result (WhereOpen D.Device self.old device.old
+            (λ _. HasTables (view_of self.old) numbers.now (D.state device.new))) }
         ensures kept { IsErrOf result FlushFault.NoMemory → (taken : List Bool)
-            → IsKept (view_of self.old).named (view_of self.old).log (view_of self.old).memory taken
-            (length (view_of self.old).kept) (view_of self.old).writes
-            → IsKept (view_of self.new).named (view_of self.new).log (view_of self.new).memory taken
-            (length (view_of self.new).kept) (view_of self.new).writes }
-        ensures committed { OnOk result
-            (HasCommitted (view_of self.old) (view_of self.new) numbers.now) }
-        ensures stays_down { StaysDown (view_of self.old) (view_of self.new) }
-        ensures refused { self.new.refused ≡ self.old.refused }
-        ensures memory { IsErrOf result FlushFault.NoMemory
-            → (view_of self.new).memory ≡ (view_of self.old).memory }
+            → KeptWith (view_of self.old) taken → KeptWith (view_of self.new) taken }
+        ensures installs { Installs D.Device self.old self.new numbers.now result device.old
+            device.new }
+        ensures memory { IsErrOf result FlushFault.NoMemory → self.new.memory ≡ self.old.memory }
         ensures idle { IsErrOf result FlushFault.NoMemory → self.new.log.pending ≡ [] }
-        ensures calls { OnlyWrites D.Device (IsErrOf result FlushFault.Device)
-            device.old device.new }
     {
         self.log.clear_other(device)?;
         build_tables(
@@ -174,37 +126,21 @@ impl Store {
         numbers: &[u32],
     ) -> Result<(), FlushFault>
         requires down { self.old.is_up ≡ false }
-        requires kept { SomeKept (view_of self.old) }
-        requires idle { self.old.log.pending ≡ [] }
+        requires reserved { IsReserved (view_of self.old) numbers.now }
         requires cleared { self.old.log.cleared ≡ true }
-        requires some { 1 ≤ length numbers.now }
-        requires distinct { IsTrue (all_distinct numbers.now) }
-        requires free { AreFree (view_of self.old).named numbers.now }
         requires within { blocks_of (view_of self.old) ≤ D.blocks device.old }
 
-        ensures stays { (durable : State)
-            (o : IsOpen (view_of self.old) durable (D.state device.old))
-            → IsPrepared (view_of self.old) numbers.now o.rest.image
-            → Stays durable (D.state device.old) (D.state device.new) }
-        ensures rooted { (durable : State) → IsOpen (view_of self.old) durable (D.state device.old)
-            → Leaves IsRooted (D.state device.old) (D.state device.new) }
-        ensures opened { OnOk result
-            ((durable : State) (o : IsOpen (view_of self.old) durable (D.state device.old))
-            → IsPrepared (view_of self.old) numbers.now o.rest.image
-            → IsOpen (view_of self.new) durable (D.state device.new)) }
-        ensures tables { OnOk result
-            ((durable : State) (o : IsOpen (view_of self.old) durable (D.state device.old))
-            → IsPrepared (view_of self.old) numbers.now o.rest.image
-            → HasTables (view_of self.old) numbers.now (D.state device.new)) }
+        ensures stays { WherePrepared D.Device self.old numbers.now device.old
+            (λ durable. Stays durable (D.state device.old) (D.state device.new)) }
+        ensures opened { OnOk result (WherePrepared D.Device self.old numbers.now device.old
+            (λ durable. IsOpen (view_of self.new) durable (D.state device.new))) }
+        ensures tables { OnOk result (WherePrepared D.Device self.old numbers.now device.old
+            (λ _. HasTables (view_of self.old) numbers.now (D.state device.new))) }
         ensures unchanged { IsErrOf result FlushFault.NoMemory
             → (view_of self.new ≡ view_of self.old) × (device.new ≡ device.old) }
-        ensures committed { OnOk result
-            (HasCommitted (view_of self.old) (view_of self.new) numbers.now) }
-        ensures stays_down { StaysDown (view_of self.old) (view_of self.new) }
-        ensures refused { self.new.refused ≡ self.old.refused }
-        ensures filters { (view_of self.new).kept ≡ (view_of self.old).kept }
-        ensures calls { OnlyWrites D.Device (IsErrOf result FlushFault.Device)
-            device.old device.new }
+        ensures installs { Installs D.Device self.old self.new numbers.now result device.old
+            device.new }
+        ensures filters { self.new.filters.items ≡ self.old.filters.items }
     {
         let change = Change::Flush {
             tables: Numbers::of(Vec::from_slice(alloc, numbers)?),

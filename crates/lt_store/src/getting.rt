@@ -1,31 +1,25 @@
 //! Reading the value of a key.
 
-ghost use Rattle.std.specs.Prelude.{◌≡◌, ℕ, ◌+◌, ◌*◌, ◌<◌, ◌≤◌, List, Ok, Some, true, IfOk};
-ghost use Rattle.std.specs.Prelude.{IsErrOf, IsTrue, count_by, length};
+ghost use Rattle.std.specs.Prelude.{◌≡◌, ℕ, ◌+◌, ◌*◌, ◌<◌, ◌≤◌, List, Ok, Some, true, IsErrOf, IsTrue, count_by};
+ghost use Rattle.std.specs.Prelude.{length};
 ghost use Rattle.std.specs.List.{AllByRecursion};
 ghost use Rattle.std.specs.Option.{ForSome};
 ghost use Rattle.lt_terms.specs.Bytes.{Image};
-ghost use Rattle.lt_terms.specs.Causes.{Rose};
 ghost use Rattle.lt_terms.specs.Items as terms;
-ghost use Rattle.lt_terms.specs.Items.{is_valid};
-ghost use Rattle.lt_terms.specs.Maps.{value_at};
+ghost use Rattle.lt_terms.specs.Items.{is_valid, value_at};
 ghost use Rattle.lt_item.specs.Views.{item_of};
 ghost use Rattle.lt_item.specs.Parts.{parts_of, IsInRange};
 ghost use Rattle.lt_device.specs.Calls.{OnlyReads};
-ghost use Rattle.lt_device.specs.Reads.{CountsAtMost};
-ghost use Rattle.lt_language.specs.Machine.{State};
-ghost use Rattle.lt_tables.specs.Merge.{newest_of, value_of};
-ghost use Rattle.lt_tables.specs.Table.{blocks_from, IsPlaced};
+ghost use Rattle.lt_tables.specs.Table.{newest_of, value_of, blocks_from, IsPlaced};
 ghost use Rattle.lt_format.specs.Layout.{extent_block};
-ghost use Rattle.lt_htable.specs.Reading.{IsNoBucket};
 ghost use Rattle.lt_image.specs.Versions.{pile_items};
-ghost use Rattle.lt_store.specs.Promise.{StopsGet};
-ghost use Rattle.lt_store.specs.Getting.{Answers, AnswersSeen, KeepsPage, KeepsUnless, IsAnswer};
-ghost use Rattle.lt_store.specs.Getting.{IsBucketOf, IsReadable, IsSeen, HoldsKey, asked};
-ghost use Rattle.lt_store.specs.Getting.{asked_from, may_hold, seen, seen_in, seen_of, with_value};
-ghost use Rattle.lt_store.specs.Getting.{version_of, page_with, value_len};
-ghost use Rattle.lt_store.specs.Open.{IsOpen, blocks_of, root_pile, state_of};
+ghost use Rattle.lt_store.specs.Promise.{StopsGet, seen, seen_in, root_pile};
+ghost use Rattle.lt_store.specs.Getting.{Answers, AnswersSeen, KeepsPage, IsAnswer, IsBucketOf, IsReadable, IsSeen};
+ghost use Rattle.lt_store.specs.Getting.{asked, may_hold, seen_of, with_value, version_of, page_with, value_len};
+ghost use Rattle.lt_store.specs.Getting.{IsFound, StopsAsking};
+ghost use Rattle.lt_store.specs.Open.{blocks_of, state_of};
 ghost use Rattle.lt_store.specs.View.{view_of};
+ghost use Rattle.lt_store.specs.Calls.{WhereOpen};
 
 use crate::store::Store;
 use lt_bloom::FilterPage;
@@ -62,36 +56,30 @@ impl Store {
     ) -> Result<Option<u16>, LookFault>
         requires up { self.old.is_up ≡ true }
         requires within { blocks_of (view_of self.old) ≤ D.blocks device.old }
-        ensures answer { (durable : State) → IsOpen (view_of self.old) durable (D.state device.old)
-            → Answers out.new (value_at (state_of (view_of self.old) durable).map key.now) result }
+        ensures answer { WhereOpen D.Device self.old device.old (λ durable.
+            Answers out.new (value_at (state_of (view_of self.old) durable).map key.now) result) }
 
         // Whatever the device tells, an item of the memory table decides, and the device is not asked.
-        ensures in_memory { (item : terms.Item)
-            → newest_of key.now (view_of self.old).memory ≡ Some item
-            → (device.new ≡ device.old) × Answers out.new (value_of (Some item)) result }
+        ensures in_memory { ForSome (newest_of key.now self.old.memory) (λ item.
+            (device.new ≡ device.old) × Answers out.new (value_of (Some item)) result) }
 
         // Whatever the blocks hold, it answers what it sees of the key, or the block that spells no bucket.
-        ensures seen { (image : Image) → (D.state device.old).shown ≡ Some image
-            → AnswersSeen out.new (seen_of (view_of self.old) image key.now) result }
+        ensures seen { ForSome (D.state device.old).shown (λ image.
+            AnswersSeen out.new (seen_of (view_of self.old) image key.now) result) }
 
         ensures short { (n : ℕ) → result ≡ Ok (Some n) → n ≤ 3000 }
         ensures page { KeepsPage result out.old out.new }
         ensures unchanged { view_of self.new ≡ view_of self.old }
         ensures damaged { (b : ℕ) → IsErrOf result (LookFault.Damaged b)
-            → StopsGet (view_of self.old).named (D.state device.old).shown key.now b }
+            → StopsGet self.old.manifest (D.state device.old).shown key.now b }
         ensures calls { OnlyReads D.Device (2 * asked (view_of self.old) key.now)
             (IsErrOf result LookFault.Device) device.old device.new }
 
         // Where a table holds the key, no older one is asked.
-        ensures stops { (durable : State) (image : Image) (j : ℕ)
-            → IsOpen (view_of self.old) durable (D.state device.old)
-            → (D.state device.old).shown ≡ Some image
-            → HoldsKey (view_of self.old).named.geometry image key.now
-            (root_pile (view_of self.old).named.manifest.trie) j
-            → CountsAtMost
-            (2 * asked_from (view_of self.old).kept key.now
-            (root_pile (view_of self.old).named.manifest.trie) j) (D.reads device.old)
-            (D.reads device.new) }
+        ensures stops { WhereOpen D.Device self.old device.old (λ _.
+            ForSome (D.state device.old).shown (λ image. StopsAsking D.Device
+            self.old.manifest.geometry self.old.filters.items key.now
+            (root_pile self.old.manifest.manifest.trie) image device.old device.new)) }
     {
         let parts = parts_of(key);
         let version = match self.memory.find(key, &parts) {
@@ -130,26 +118,22 @@ fn search<D: Device>(
         tables.now }
     requires parts { parts.now ≡ parts_of key.now }
     requires range { IsInRange parts.now }
-    ensures answer { (image : Image) → (D.state device.old).shown ≡ Some image
-        → AllByRecursion (IsReadable geometry.now filters.now image key.now) tables.now
+    ensures answer { ForSome (D.state device.old).shown (λ image.
+        AllByRecursion (IsReadable geometry.now filters.now image key.now) tables.now
         → IsAnswer (newest_of key.now (pile_items geometry.now image tables.now)) result out.old
-        out.new }
-    ensures seen { (image : Image) → (D.state device.old).shown ≡ Some image
-        → IsSeen (seen geometry.now (may_hold filters.now key.now) image key.now tables.now) result
-        out.old out.new }
-    ensures short { IfOk result (λ version. ForSome (value_len version) (λ n. n ≤ 3000)) }
-    ensures page { KeepsUnless result out.old out.new }
-    ensures damaged { (b : ℕ) → IsErrOf result (LookFault.Damaged b)
-        → IsNoBucket (D.state device.old).shown b }
+        out.new) }
+    ensures seen { ForSome (D.state device.old).shown (λ image.
+        IsSeen (seen geometry.now (may_hold filters.now key.now) image key.now tables.now) result
+        out.old out.new) }
+    ensures found { IsFound (D.state device.old).shown result out.old out.new }
     ensures damaged_block { (b : ℕ) → IsErrOf result (LookFault.Damaged b)
         → IsBucketOf geometry.now tables.now b }
     ensures calls { OnlyReads D.Device (2 * count_by (may_hold filters.now key.now) tables.now)
         (IsErrOf result LookFault.Device) device.old device.new }
-    ensures stops { (image : Image) (j : ℕ) → (D.state device.old).shown ≡ Some image
-        → AllByRecursion (IsReadable geometry.now filters.now image key.now) tables.now
-        → HoldsKey geometry.now image key.now tables.now j
-        → CountsAtMost (2 * asked_from filters.now key.now tables.now j) (D.reads device.old)
-        (D.reads device.new) }
+    ensures stops { ForSome (D.state device.old).shown (λ image.
+        AllByRecursion (IsReadable geometry.now filters.now image key.now) tables.now
+        → StopsAsking D.Device geometry.now filters.now key.now tables.now image device.old
+        device.new) }
 {
     for i in (0..tables.len()).rev() {
         let extent = tables[i];
@@ -191,12 +175,9 @@ fn look_into<D: Device>(
     ensures answer { (image : Image) (items : List terms.Item)
         → (D.state device.old).shown ≡ Some image → IsPlaced items (blocks_from image first)
         → IsAnswer (newest_of key.now items) result out.old out.new }
-    ensures seen { (image : Image) → (D.state device.old).shown ≡ Some image
-        → IsSeen (seen_in image first key.now) result out.old out.new }
-    ensures short { IfOk result (λ version. ForSome (value_len version) (λ n. n ≤ 3000)) }
-    ensures page { KeepsUnless result out.old out.new }
-    ensures damaged { (b : ℕ) → IsErrOf result (LookFault.Damaged b)
-        → IsNoBucket (D.state device.old).shown b }
+    ensures seen { ForSome (D.state device.old).shown
+        (λ image. IsSeen (seen_in image first key.now) result out.old out.new) }
+    ensures found { IsFound (D.state device.old).shown result out.old out.new }
     ensures damaged_block { (b : ℕ) → IsErrOf result (LookFault.Damaged b) → (column : ℕ)
         × (column < 64) × (b ≡ first + column) }
     ensures calls { OnlyReads D.Device 2 (IsErrOf result LookFault.Device) device.old device.new }

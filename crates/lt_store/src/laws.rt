@@ -8,9 +8,9 @@ ghost use Rattle.lt_device.specs.State as told;
 ghost use Rattle.lt_language.specs.Machine.{State, nothing_yet};
 ghost use Rattle.lt_format.specs.declared.geometry.Geometry.{Geometry};
 ghost use Rattle.lt_image.specs.Standing.{Stands, after_writes};
-ghost use Rattle.lt_store.specs.Getting.{seen_of, seen_on};
+ghost use Rattle.lt_store.specs.Getting.{seen_of};
+ghost use Rattle.lt_store.specs.Promise.{seen_on, IsFresh, IsRooted, Rests};
 ghost use Rattle.lt_store.specs.Going.{Goes, Survives};
-ghost use Rattle.lt_store.specs.Promise.{IsFresh, IsRooted, Rests};
 ghost use Rattle.lt_store.specs.Open.{IsOpen, StoreView, state_of};
 ghost use Rattle.lt_store.specs.Reading.{Reads};
 

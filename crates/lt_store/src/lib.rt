@@ -21,6 +21,3 @@ pub use laws::{goes_compose, open_rests};
 pub use making::init;
 pub use store::Store;
 pub use writing::Taken;
-
-#[cfg(test)]
-mod tests;

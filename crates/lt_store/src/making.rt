@@ -1,15 +1,12 @@
 //! Making a store on a device.
 
-ghost use Rattle.std.specs.Prelude.{IsErr};
-ghost use Rattle.std.specs.Prelude.{◌≡◌, ◌≢◌, ℕ, ◌<◌, ◌≤◌, ◌↔◌, Bool, false, List, Some, IfOk};
-ghost use Rattle.std.specs.Prelude.{OnOk, IsErrOf, IsTrue};
+ghost use Rattle.std.specs.Prelude.{IsErr, ◌≡◌, ◌≢◌, ℕ, ◌<◌, ◌≤◌, ◌↔◌, Bool, List, Some, IfOk, OnOk, IsErrOf, IsTrue};
 ghost use Rattle.std.specs.Option.{ForSome};
 ghost use Rattle.lt_terms.specs.Bytes.{block_at, zero_block};
-ghost use Rattle.lt_terms.specs.Causes.{CountsOne, HasCause, Rose};
 ghost use Rattle.lt_device.specs.Calls.{OnlyReads, OnlyWrites, ReadsAndWrites};
 ghost use Rattle.lt_device.specs.Moments.{ConfinedTo};
 ghost use Rattle.lt_device.specs.State.{IsFit, synced, written};
-ghost use Rattle.lt_format.specs.Layout.{is_geometry, blocks_needed, superblock, gate_page};
+ghost use Rattle.lt_format.specs.Layout.{is_geometry, blocks_needed, superblock};
 ghost use Rattle.lt_format.specs.Snapshot.{extents_stand};
 ghost use Rattle.lt_store.specs.Making.{InFresh, geometry_of, HasRegions};
 ghost use Rattle.lt_store.specs.Promise.{IsFresh, IsOccupied, IsVacant};

@@ -1,28 +1,23 @@
 //! Opening a store: its manifest, its log and the filters of the root's tables are read.
 
-ghost use Rattle.std.specs.Prelude.{◌≡◌, ℕ, ◌+◌, ◌*◌, ◌<◌, ◌≤◌, Ok, Err, None, [], ◌∷◌, ◌++◌, true};
-ghost use Rattle.std.specs.Prelude.{length, vec_len, IfOk, IsErrOf, IsTrue, replicate};
+ghost use Rattle.std.specs.Prelude.{◌≡◌, ℕ, ◌+◌, ◌*◌, ◌<◌, ◌≤◌, Ok, Err, None, [], true, length, vec_len, IfOk};
+ghost use Rattle.std.specs.Prelude.{IsErrOf, IsTrue, replicate};
 ghost use Rattle.std.specs.List.{list_all};
 ghost use Rattle.std.specs.Option.{ForSome};
 ghost use Rattle.lt_terms.specs.Bytes.{block_at};
-ghost use Rattle.lt_terms.specs.Causes.{CountsOne, Rose};
-ghost use Rattle.lt_terms.specs.Items.{is_valid, item_cost, total_cost};
-ghost use Rattle.lt_item.specs.Views.{item_of};
+ghost use Rattle.lt_terms.specs.Items.{is_valid, total_cost};
 ghost use Rattle.lt_mem.specs.Index.{table_room};
 ghost use Rattle.lt_alloc.specs.Extents.{AreTaken};
 ghost use Rattle.lt_device.specs.Calls.{OnlyReads};
 ghost use Rattle.lt_device.specs.Reads.{CountsAtMost};
 ghost use Rattle.lt_language.specs.Machine.{State};
-ghost use Rattle.lt_format.specs.Layout.{is_geometry, extent_block, blocks_needed};
-ghost use Rattle.lt_format.specs.Log.{log_fits, log_groups};
-ghost use Rattle.lt_format.specs.Naming.{manifest_of};
-ghost use Rattle.lt_format.specs.Snapshot.{IsManifest};
+ghost use Rattle.lt_format.specs.Layout.{is_geometry, blocks_needed};
+ghost use Rattle.lt_format.specs.Snapshot.{manifest_of, IsManifest};
 ghost use Rattle.lt_format.specs.Trie.{named};
-ghost use Rattle.lt_redo.specs.Opening.{HasItems};
-ghost use Rattle.lt_image.specs.Opening.{open_image};
-ghost use Rattle.lt_store.specs.Promise.{StopsOpening, AtRest, Rests};
-ghost use Rattle.lt_store.specs.Open.{IsOpen, root_pile, blocks_of, extents_of};
-ghost use Rattle.lt_store.specs.Reading.{Reads, KeepsFilters, IsBelowExtents, Assembles, log_at};
+ghost use Rattle.lt_store.specs.Promise.{StopsOpening, AtRest, Rests, root_pile};
+ghost use Rattle.lt_store.specs.Open.{IsOpen, blocks_of, extents_of};
+ghost use Rattle.lt_store.specs.Reading.{Reads, KeepsFilters, IsBelowExtents, Assembles, IsLogOf, HasItemsOf};
+ghost use Rattle.lt_store.specs.Reading.{groups_of};
 ghost use Rattle.lt_store.specs.View.{view_of};
 
 use super::store::Store;
@@ -52,7 +47,7 @@ impl Store {
     /// of the log, and the filter block of each table of the root.
     pub fn open<D: Device>(alloc: Global, device: &mut D) -> Result<Store, OpenFault>
         ensures up { IfOk result (λ store. store.is_up ≡ true) }
-        ensures pending { IfOk result (λ store. (view_of store).log.pending ≡ []) }
+        ensures pending { IfOk result (λ store. store.log.pending ≡ []) }
         ensures room { IfOk result (λ store. blocks_of (view_of store) ≤ D.blocks device.new) }
 
         // On a device that tells its blocks the store is what they open as.
@@ -73,8 +68,8 @@ impl Store {
         ensures calls { OnlyReads D.Device (307 + 2 * 512 + 65536) (IsErrOf result OpenFault.Device)
             device.old device.new }
         ensures count { IfOk result (λ store. CountsAtMost
-            (307 + 2 * (view_of store).named.geometry.slots + length
-            (root_pile (view_of store).named.manifest.trie))
+            (307 + 2 * store.manifest.geometry.slots
+            + length (root_pile store.manifest.manifest.trie))
             (D.reads device.old) (D.reads device.new)) }
     {
         let manifest = read_manifest(alloc, device)?;
@@ -91,11 +86,7 @@ impl Store {
         items: &[Item],
         filters: Vec<Option<FilterPage>>,
     ) -> Result<Store, NoMemory>
-        requires log { log ≡ log_at manifest log.slots }
-        requires slots { log.slots ≤ manifest.geometry.slots }
-        requires enough { log.slots ≤ length items.now }
-        requires valid { IsTrue (list_all is_valid items.now) }
-        requires fits { IsTrue (log_fits manifest.manifest.header.writes items.now) }
+        requires log { IsLogOf manifest log items.now }
         requires filters { vec_len filters ≡ manifest.manifest.header.extents }
         ensures { IfOk result
             (λ store. Assembles manifest log items.now filters.items (view_of store)) }
@@ -143,20 +134,12 @@ fn read_log<D: Device>(
 ) -> Result<(Log, Vec<Item>), OpenFault>
     requires room { blocks_needed manifest.now.geometry manifest.now.manifest.header.extents
         ≤ D.blocks device.old }
-    ensures log { IfOk result (λ read. read.0 ≡ log_at manifest.now read.0.slots) }
-    ensures slots { IfOk result (λ read. read.0.slots ≤ manifest.now.geometry.slots) }
-    ensures enough { IfOk result (λ read. read.0.slots ≤ length read.1.items) }
-    ensures valid { IfOk result (λ read. IsTrue (list_all is_valid read.1.items)) }
-    ensures fits { IfOk result
-        (λ read. IsTrue (log_fits manifest.now.manifest.header.writes read.1.items)) }
+    ensures log { IfOk result (λ read. IsLogOf manifest.now read.0 read.1.items) }
     ensures read { IfOk result
         (λ read. ForSome (D.state device.old).shown
-        (HasItems manifest.now.geometry manifest.now.manifest.header.log_area
-        manifest.now.manifest.header.writes read.0.slots read.1.items)) }
+        (HasItemsOf manifest.now read.0.slots read.1.items)) }
     ensures damaged { (b : ℕ) → IsErrOf result (OpenFault.Damaged b)
-        → ForSome (D.state device.old).shown (λ image.
-        log_groups manifest.now.geometry image manifest.now.manifest.header.log_area
-        manifest.now.manifest.header.writes ≡ Err b) }
+        → ForSome (D.state device.old).shown (λ image. groups_of manifest.now image ≡ Err b) }
     ensures damaged_block { (b : ℕ) → IsErrOf result (OpenFault.Damaged b) → IsBelowExtents b }
     ensures calls { OnlyReads D.Device (2 * manifest.now.geometry.slots)
         (IsErrOf result OpenFault.Device) device.old device.new }

@@ -1,6 +1,6 @@
 //! What a store keeps in memory.
 
-ghost use Rattle.std.specs.Prelude.{◌≡◌, Some, true, length, vec_len};
+ghost use Rattle.std.specs.Prelude.{◌≡◌, Some, true, vec_len};
 ghost use Rattle.lt_alloc.specs.declared.extents.Short.{Short};
 ghost use Rattle.lt_store.specs.Flushing.{IsShort};
 ghost use Rattle.lt_store.specs.Kept.{IsKept};

@@ -4,10 +4,9 @@ use Rattle.std.specs.Prelude.{◌==◌}
 use Rattle.std.specs.List.{list_any, list_all, filter, flat_map, AllByRecursion}
 use Rattle.std.specs.Cmp.Lexicographic.{bytes_decides}
 use Rattle.std.proofs.lemmas.Bool.{or_left, or_right}
-use Rattle.lt_terms.specs.Bytes.{same_bytes}
+use Rattle.lt_terms.specs.Bytes.{same_bytes, is_in}
 use Rattle.lt_terms.specs.Items.{Item}
 use Rattle.lt_terms.specs.Hashes.{home_column, key_positions}
-use Rattle.lt_terms.specs.Numbers.{is_in}
 use Rattle.lt_tables.specs.Filter.{is_set_in, home_positions, filter_block, covers}
 use Rattle.lt_tables.proofs.FilterLaws.{is_set_in-filter_block}
 use Rattle.lt_tables.proofs.HashLaws.{home_column-small, positions-small}

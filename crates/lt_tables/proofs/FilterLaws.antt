@@ -10,9 +10,8 @@ use Rattle.std.specs.List.{flat_map, range_with_len, filter}
 use Rattle.lt_terms.specs.Items.{Item}
 use Rattle.std.specs.Prelude.{◌==◌, ◌&&◌, ◌||◌}
 use Rattle.std.specs.Int.{bit_at}
-use Rattle.lt_terms.specs.Bytes.{IsBlock, zero_block, zeros}
+use Rattle.lt_terms.specs.Bytes.{IsBlock, zero_block, zeros, is_in}
 use Rattle.lt_terms.specs.Hashes.{home_column, key_positions}
-use Rattle.lt_terms.specs.Numbers.{is_in}
 use Rattle.lt_tables.specs.Filter.{byte_of, bytes_of_bits, filter_of, is_set, is_set_in, home_positions, filter_block, AddsPositions, HasFilters}
 use Rattle.std.proofs.Math.Bool.{or-false}
 

@@ -7,8 +7,7 @@ use Rattle.std.proofs.lemmas.List.{get_or_append_left, get_or-append-add, get_or
 use Rattle.lt_terms.specs.Bytes.{zeros}
 use Rattle.lt_terms.specs.Hashes.{key_positions}
 use Rattle.lt_tables.proofs.HashLaws.{positions-small}
-use Rattle.lt_tables.specs.Filter.{is_set_in, covers, covers_positions}
-use Rattle.lt_tables.specs.Group.{filter_in, group_block}
+use Rattle.lt_tables.specs.Filter.{is_set_in, covers, covers_positions, filter_in, group_block}
 
 -- pages of 4,096 bytes
 abbrev pub ArePages : List (List ℕ) → Type 0

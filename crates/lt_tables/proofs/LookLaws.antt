@@ -11,8 +11,7 @@ use Rattle.lt_terms.specs.Items.{Item}
 use Rattle.lt_tables.specs.declared.ColumnPlan.{ColumnPlan}
 use Rattle.lt_tables.specs.Bucket.{moved, absent, look_of, look_in_1, look_on, sent_to, bucket_of}
 use Rattle.lt_tables.specs.Placement.{plan_at}
-use Rattle.lt_tables.specs.Table.{place_of, sends_in, bucket_in}
-use Rattle.lt_tables.specs.Merge.{versions_of, newest_of, newest}
+use Rattle.lt_tables.specs.Table.{place_of, sends_in, bucket_in, versions_of, newest_of, newest}
 use Rattle.lt_tables.proofs.NewestLaws.{filters_swap, versions_of-newest}
 
 head : List Item → Option Item

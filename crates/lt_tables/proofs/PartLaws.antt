@@ -9,7 +9,7 @@ use Rattle.std.specs.Option.{option_to_list}
 use Rattle.lt_terms.specs.Bytes.{same_bytes}
 use Rattle.lt_terms.specs.Hashes.{key_digit, rank_cmp}
 use Rattle.lt_terms.specs.Items.{Item}
-use Rattle.lt_tables.specs.Merge.{versions_of, newest_of, newest, with_digit, without_deletes, is_put, value_of}
+use Rattle.lt_tables.specs.Table.{versions_of, newest_of, newest, with_digit, without_deletes, is_put, value_of}
 use Rattle.lt_tables.specs.Alike.{HasOnce}
 use Rattle.lt_tables.proofs.NewestLaws.{first, second, filters_swap, versions_of-newest, newest_of-newest}
 use Rattle.lt_tables.proofs.RankedLaws.{is_ranked}

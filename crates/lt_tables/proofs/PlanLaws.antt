@@ -13,9 +13,8 @@ use Rattle.lt_tables.specs.declared.Sending.{Sending}
 use Rattle.lt_tables.specs.declared.ColumnPlan.{ColumnPlan}
 use Rattle.lt_tables.specs.declared.Sends.{Sends}
 use Rattle.lt_tables.specs.Bucket.{capacity}
-use Rattle.lt_tables.specs.Merge.{newest}
+use Rattle.lt_tables.specs.Table.{newest, place_of}
 use Rattle.lt_tables.specs.Placement.{columns, entry_of, homed, entries_cost, column_load, column_mark, cost_below, senders, sendings, plan_of, placement, plan_at, placement_of}
-use Rattle.lt_tables.specs.Table.{place_of}
 use Rattle.lt_tables.proofs.TableLaws.{PlansFit}
 use Rattle.lt_tables.proofs.HashLaws.{home_column-small, key_suffix-small}
 use Rattle.lt_tables.proofs.FitLaws.{Made, lies, plan_from, plans_of, plan_is, plan_past, sendings-made, no_made, column-fits}

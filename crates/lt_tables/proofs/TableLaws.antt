@@ -11,8 +11,7 @@ use Rattle.lt_tables.specs.declared.Sends.{Sends}
 use Rattle.lt_tables.specs.declared.ColumnPlan.{ColumnPlan}
 use Rattle.lt_tables.specs.Bucket.{Bucket, capacity, bucket_of, items_on}
 use Rattle.lt_tables.specs.Placement.{columns}
-use Rattle.lt_tables.specs.Merge.{versions_of, newest_of, newest}
-use Rattle.lt_tables.specs.Table.{place_of, bucket_in, table_items}
+use Rattle.lt_tables.specs.Table.{versions_of, newest_of, newest, place_of, bucket_in, table_items}
 use Rattle.lt_tables.specs.Alike.{SameNewest, HasOnce}
 use Rattle.lt_tables.proofs.NewestLaws.{filters_swap, last_of_option, versions_of-newest}
 

@@ -8,9 +8,8 @@ use Rattle.std.specs.List.{last_or}
 use Rattle.lt_terms.specs.declared.Kind.{Kind}
 use Rattle.lt_terms.specs.declared.Kind.TheVariants.{Put, Delete}
 use Rattle.lt_terms.specs.Bytes.{same_bytes}
-use Rattle.lt_terms.specs.Items.{Item}
-use Rattle.lt_terms.specs.Maps.{Map, applied, applied_as, after_items, value_at, empty_map}
-use Rattle.lt_tables.specs.Merge.{versions_of, newest_of, value_of}
+use Rattle.lt_terms.specs.Items.{Item, Map, applied, applied_as, after_items, value_at, empty_map}
+use Rattle.lt_tables.specs.Table.{versions_of, newest_of, value_of}
 
 -- the value of the newest of these versions, or what stood before where there is none
 abbrev pub newest_value : Option (List ℕ) → Option Item → Option (List ℕ)

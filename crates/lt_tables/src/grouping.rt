@@ -2,8 +2,7 @@
 
 ghost use Rattle.std.specs.Prelude.{◌≡◌, ℕ, ◌<◌, List, [], length, slice_index_or};
 ghost use Rattle.std.specs.List.{AllByRecursion};
-ghost use Rattle.lt_tables.specs.Filter.{covers};
-ghost use Rattle.lt_tables.specs.Group.{group_block};
+ghost use Rattle.lt_tables.specs.Filter.{covers, group_block};
 
 /// In the block of a column the filter at a table's place answers for each key as the table's own filter of
 /// that column.

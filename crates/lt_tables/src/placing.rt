@@ -6,7 +6,7 @@ ghost use Rattle.lt_terms.specs.Items.{Item, is_valid};
 ghost use Rattle.lt_tables.specs.declared.Entry.{Entry};
 ghost use Rattle.lt_tables.specs.Bucket.{capacity};
 ghost use Rattle.lt_tables.specs.Placement.{placement, keeps_all};
-ghost use Rattle.lt_tables.specs.Merge.{newest};
+ghost use Rattle.lt_tables.specs.Table.{newest};
 ghost use Rattle.lt_tables.specs.Cut.{cut, IsTable};
 
 /// The empty list has a placement, in which no column sends.

@@ -1,10 +1,8 @@
 //! Laws of items that were read, and of the map that versions make.
 
 ghost use Rattle.std.specs.Prelude.{◌≡◌, ℕ, List, All, IsTrue};
-ghost use Rattle.lt_terms.specs.Items.{Item, is_valid};
-ghost use Rattle.lt_terms.specs.Maps.{value_at, empty_map, after_items};
-ghost use Rattle.lt_tables.specs.Merge.{newest, newest_of, value_of};
-ghost use Rattle.lt_tables.specs.Table.{table_items};
+ghost use Rattle.lt_terms.specs.Items.{Item, is_valid, value_at, empty_map, after_items};
+ghost use Rattle.lt_tables.specs.Table.{newest, newest_of, value_of, table_items};
 
 /// The items of a table are valid, whatever its blocks hold.
 pub fn read_items_are_valid()

@@ -2,5 +2,3 @@ pub mod Bytes
 pub mod Causes
 pub mod Hashes
 pub mod Items
-pub mod Maps
-pub mod Numbers

@@ -1,5 +1,5 @@
 ghost use Rattle.std.specs.Prelude.{◌≡◌, ◌≤◌, IfOk};
-ghost use Rattle.lt_tables.specs.Merge.{newest};
+ghost use Rattle.lt_tables.specs.Table.{newest};
 
 use lt_balance::{are_entries, place};
 use lt_bloom::FilterPage;

@@ -1,7 +1,7 @@
 //! The header of a snapshot: its first 40 bytes.
 
 ghost use Rattle.std.specs.Prelude.{◌≡◌, ◌+◌, ◌*◌, ◌^◌, ◌<◌, ◌≤◌, ◌==◌, ◌&&◌, length, nat_le, Ok, Err, IfOk, IfErr};
-ghost use Rattle.std.specs.Prelude.{IsTrue, MatchResult, slice_index};
+ghost use Rattle.std.specs.Prelude.{MatchResult, slice_index};
 ghost use Rattle.std.specs.Int.{w8, w16, w32, w64};
 ghost use Rattle.lt_manifest.specs.Area.{field_at, front_of};
 ghost use Rattle.lt_format.specs.Snapshot.{front_read, is_zero, extents_stand, always};
@@ -26,12 +26,8 @@ pub fn read_front(geometry: &Geometry, blocks: u64, bytes: &[u8]) -> Result<Fron
     ensures read { MatchResult result
         (λ front. front_read geometry.now blocks (slice_index bytes.now) ≡ Ok (front_of front))
         (λ at. front_read geometry.now blocks (slice_index bytes.now) ≡ Err at) }
-    ensures log_area { IfOk result (λ front. front.header.log_area < 2) }
-    ensures stands { IfOk result (λ front.
-        IsTrue (extents_stand geometry.now blocks front.header.extents)) }
     ensures writes { IfOk result (λ front. front.header.writes < 2 ^ 64) }
     ensures least { IfOk result (λ front. 40 ≤ front.total) }
-    ensures most { IfOk result (λ front. front.total ≤ 40 + 19 * front.header.extents) }
     ensures fault_place { IfErr result (λ at. at < 40) }
 {
     format_field(bytes)?;
@@ -64,8 +60,7 @@ fn format_field(bytes: &[u8]) -> Result<(u8, usize), usize>
 }
 
 fn log_area_field(bytes: &[u8]) -> Result<(u8, usize), usize>
-    ensures read { result ≡ field_at bytes.now w8 (λ n. nat_le n 1) 1 }
-    ensures small { IfOk result (λ read. read.0 < 2) }
+    ensures { result ≡ field_at bytes.now w8 (λ n. nat_le n 1) 1 }
 {
     match number_u8(bytes, 1) {
         Some(area) if area <= 1 => Ok((area, 2)),
@@ -74,8 +69,7 @@ fn log_area_field(bytes: &[u8]) -> Result<(u8, usize), usize>
 }
 
 fn extents_field(geometry: &Geometry, blocks: u64, bytes: &[u8]) -> Result<(u32, usize), usize>
-    ensures read { result ≡ field_at bytes.now w32 (extents_stand geometry.now blocks) 4 }
-    ensures stands { IfOk result (λ read. IsTrue (extents_stand geometry.now blocks read.0)) }
+    ensures { result ≡ field_at bytes.now w32 (extents_stand geometry.now blocks) 4 }
 {
     match number_u32(bytes, 4) {
         Some(extents) if has_room(geometry, blocks, extents) => Ok((extents, 8)),
@@ -113,7 +107,6 @@ fn total_field(bytes: &[u8], extents: u32) -> Result<(u32, usize), usize>
     ensures read { result ≡ field_at bytes.now w32
         (λ n. nat_le 40 n && nat_le n (40 + 19 * extents)) 20 }
     ensures least { IfOk result (λ read. 40 ≤ read.0) }
-    ensures most { IfOk result (λ read. read.0 ≤ 40 + 19 * extents) }
 {
     match number_u32(bytes, 20) {
         Some(total) if 40 <= total && total as u64 <= 40 + 19 * extents as u64 => Ok((total, 24)),

@@ -1,21 +1,20 @@
 //! A node of a snapshot: its fields, and then its extent numbers.
 
-ghost use Rattle.std.specs.Prelude.{◌≡◌, ℕ, ◌+◌, ◌^◌, ◌++◌, ◌≤◌, ◌==◌, ◌&&◌, List, length, nat_le, nat_lt};
-ghost use Rattle.std.specs.Prelude.{Ok, Err, IfOk, IfErr, IsErrOf, IsTrue, MatchResult, slice_index, None, [], false};
-ghost use Rattle.std.specs.Prelude.{replicate, if◌then◌else◌};
+ghost use Rattle.std.specs.Prelude.{◌≡◌, ℕ, ◌+◌, ◌<◌, ◌^◌, ◌++◌, ◌≤◌, ◌==◌, ◌&&◌, List, length, nat_le, nat_lt};
+ghost use Rattle.std.specs.Prelude.{Ok, Err, IfOk, IsTrue, MatchResult, slice_index, if◌then◌else◌};
 ghost use Rattle.std.specs.Int.{w8, w16, w32};
-ghost use Rattle.lt_format.specs.Trie as tries;
-ghost use Rattle.lt_format.specs.Trie.{is_last_level, is_node, is_shaped, groups_for, named, node_extents, IsTrie};
-ghost use Rattle.lt_format.specs.Changes.{are_new};
-ghost use Rattle.lt_format.specs.Snapshot.{node_read, nodes_read, extents_of, follows};
+ghost use Rattle.lt_format.specs.Layout.{is_geometry};
+ghost use Rattle.lt_format.specs.Trie.{groups_for, IsTrie};
+ghost use Rattle.lt_format.specs.Snapshot.{node_read, extents_of, follows};
 ghost use Rattle.lt_node.specs.Marks.{AreMarks};
-ghost use Rattle.lt_manifest.specs.Area.{field_at};
+ghost use Rattle.lt_manifest.specs.Area.{IsReadAs, after_front, field_at, front_of};
 ghost use Rattle.lt_manifest.specs.Shape.{entry_of, shape_of, shape_read};
 
 use crate::fault::ReadFault;
 use crate::snapshot::extents::read_extents;
 use crate::snapshot::fields::{number_u8, number_u16, number_u32};
-use lt_format::NodeId;
+use crate::snapshot::header::Front;
+use lt_format::{Geometry, NodeId};
 use lt_node::{Numbers, Trie};
 use std::alloc::Global;
 
@@ -28,35 +27,31 @@ pub struct NodeRead {
     pub groups: Vec<u32>,
 }
 
-/// Reads as many nodes as wanted, behind the 40 bytes of the header. No extent is marked yet.
-pub fn read_nodes(
+/// The nodes that the bytes of a snapshot spell behind its header, which they begin with.
+pub fn read_trie(
     alloc: Global,
-    levels: u8,
-    extents: u32,
-    count: u32,
+    geometry: &Geometry,
+    front: &Front,
     bytes: &[u8],
-    marks: &mut [bool],
-) -> Result<(Trie, usize), ReadFault>
-    requires least { 2 ≤ levels }
-    requires most { levels ≤ 5 }
-    requires extents { extents ≤ 65536 }
-    requires marks { marks.old ≡ replicate extents false }
-    requires within { 40 ≤ length bytes.now }
-    ensures read { IfOk result (λ read.
-        nodes_read (slice_index bytes.now) (length bytes.now) levels extents count None [] 40
-        ≡ Ok (read.0.nodes, read.1)) }
-    ensures levels { IfOk result (λ read. read.0.levels ≡ levels) }
-    ensures trie { IfOk result (λ read. IsTrie levels extents read.0.nodes) }
-    ensures fault { (e : ℕ) → IsErrOf result (ReadFault.Field e)
-        → nodes_read (slice_index bytes.now) (length bytes.now) levels extents count None [] 40
-        ≡ Err e }
-    ensures fault_place { (e : ℕ) → IsErrOf result (ReadFault.Field e) → e ≤ length bytes.now }
+) -> Result<Trie, ReadFault>
+    requires valid { IsTrue (is_geometry geometry.now) }
+    requires extents { front.now.header.extents ≤ 65536 }
+    requires total { length bytes.now ≡ front.now.total }
+    ensures read { IsReadAs result
+        (λ trie. record { header = front.now.header; trie = trie.nodes })
+        (after_front geometry.now (slice_index bytes.now) (front_of front.now)) }
+    ensures levels { IfOk result (λ trie. trie.levels ≡ geometry.now.levels) }
+    ensures trie { IfOk result (λ trie.
+        IsTrie geometry.now.levels front.now.header.extents trie.nodes) }
 {
-    let mut trie = Trie::new(alloc, levels)?;
+    let extents = front.header.extents;
+    let mut flags = vec![in alloc; false; extents as usize]?;
+    let marks = flags.as_mut_slice();
+    let mut trie = Trie::new(alloc, geometry.levels)?;
     let mut last = None;
     let mut place = 40;
-    for _ in 0..count {
-        let (node, next) = read_node(alloc, levels, extents, last, bytes, place, marks)?;
+    for _ in 0..front.nodes {
+        let (node, next) = read_node(alloc, geometry.levels, extents, last, bytes, place, marks)?;
         last = Some(node.id);
         place = next;
         trie.set_node(
@@ -67,7 +62,11 @@ pub fn read_nodes(
             Numbers::of(node.groups),
         )?;
     }
-    Ok((trie, place))
+    if place == bytes.len() {
+        Ok(trie)
+    } else {
+        Err(ReadFault::Field(20))
+    }
 }
 
 /// Reads a node that comes after the last one, and marks its extents, which are not marked yet.
@@ -82,25 +81,11 @@ fn read_node(
 ) -> Result<(NodeRead, usize), ReadFault>
     requires levels { levels ≤ 5 }
     requires marks { extents ≤ length marks.old }
-    requires within { at ≤ length bytes.now }
-    ensures read { IfOk result (λ read. (before : List ℕ) → AreMarks marks.old before
-        → node_read (slice_index bytes.now) (length bytes.now) levels extents last before at
-        ≡ Ok (entry_of read.0, read.1)) }
+    ensures read { (before : List ℕ) → AreMarks marks.old before
+        → IsReadAs result (λ read. (entry_of read.0, read.1))
+        (node_read (slice_index bytes.now) (length bytes.now) levels extents last before at) }
     ensures marked { IfOk result (λ read. (before : List ℕ) → AreMarks marks.old before
         → AreMarks marks.new (extents_of (entry_of read.0) ++ before)) }
-    ensures node { IfOk result (λ read. IsTrue (is_node levels read.0.id)) }
-    ensures follows { IfOk result (λ read. IsTrue (follows last read.0.id)) }
-    ensures some { IfOk result (λ read. 1 ≤ length read.0.tables.items) }
-    ensures shaped { IfOk result (λ read.
-        IsTrue (is_shaped levels extents read.0.id (entry_of read.0).1)) }
-    ensures new { IfOk result (λ read. (trie : tries.Trie) → AreMarks marks.old (named trie)
-        → IsTrue (are_new extents trie (node_extents (entry_of read.0).1))) }
-    ensures place { IfOk result (λ read. read.1 ≤ length bytes.now) }
-    ensures fault { (e : ℕ) → IsErrOf result (ReadFault.Field e) → (before : List ℕ)
-        → AreMarks marks.old before
-        → node_read (slice_index bytes.now) (length bytes.now) levels extents last before at
-        ≡ Err e }
-    ensures fault_place { (e : ℕ) → IsErrOf result (ReadFault.Field e) → e ≤ length bytes.now }
 {
     let (shape, at_tables) = read_shape(levels, extents, last, bytes, at)?;
     let (tables, at_groups) = read_extents(alloc, bytes, extents, shape.tables, at_tables, marks)?;
@@ -135,21 +120,11 @@ pub fn read_shape(
     bytes: &[u8],
     at: usize,
 ) -> Result<(Shape, usize), usize>
-    requires levels { levels ≤ 5 }
-    requires within { at ≤ length bytes.now }
-    ensures read { MatchResult result
+    requires { levels ≤ 5 }
+    ensures { MatchResult result
         (λ read. shape_read (slice_index bytes.now) (length bytes.now) levels extents last at
         ≡ Ok (shape_of read.0, read.1))
         (λ e. shape_read (slice_index bytes.now) (length bytes.now) levels extents last at ≡ Err e) }
-    ensures node { IfOk result (λ read. IsTrue (is_node levels read.0.id)) }
-    ensures follows { IfOk result (λ read. IsTrue (follows last read.0.id)) }
-    ensures base { IfOk result (λ read.
-        read.0.base ≤ (if is_last_level levels read.0.id then extents else 0)) }
-    ensures some { IfOk result (λ read. 1 ≤ read.0.tables) }
-    ensures groups { IfOk result (λ read.
-        read.0.groups ≡ (if is_last_level levels read.0.id then groups_for read.0.tables else 0)) }
-    ensures place { IfOk result (λ read. read.1 ≤ length bytes.now) }
-    ensures fault_place { IfErr result (λ e. e ≤ length bytes.now) }
 {
     let (level, at_number) = level_field(levels, bytes, at)?;
     let (number, at_base) = number_field(level, last, bytes, at_number)?;
@@ -171,8 +146,7 @@ pub fn read_shape(
 
 fn level_field(levels: u8, bytes: &[u8], at: usize) -> Result<(u8, usize), usize>
     ensures read { result ≡ field_at bytes.now w8 (λ l. nat_lt l levels) at }
-    ensures small { IfOk result (λ read. read.0 + 1 ≤ levels) }
-    ensures place { IfOk result (λ read. read.1 ≤ length bytes.now) }
+    ensures small { IfOk result (λ read. read.0 < levels) }
 {
     match number_u8(bytes, at) {
         Some(level) if level < levels => Ok((level, at + 1)),
@@ -187,12 +161,8 @@ fn number_field(
     at: usize,
 ) -> Result<(u16, usize), usize>
     requires { level ≤ 4 }
-    ensures read { result ≡ field_at bytes.now w16
+    ensures { result ≡ field_at bytes.now w16
         (λ n. nat_lt n (8 ^ level) && follows last (record { level = level; number = n })) at }
-    ensures next { IfOk result (λ read.
-        IsTrue (nat_lt read.0 (8 ^ level)
-        && follows last (record { level = level; number = read.0 }))) }
-    ensures place { IfOk result (λ read. read.1 ≤ length bytes.now) }
 {
     match number_u16(bytes, at) {
         Some(number) if is_next(level, number, last) => Ok((number, at + 2)),
@@ -225,10 +195,8 @@ fn follows(last: Option<NodeId>, level: u8, number: u16) -> bool
 
 /// The base, which is 0 above the last level.
 fn base_field(is_last: bool, extents: u32, bytes: &[u8], at: usize) -> Result<(u32, usize), usize>
-    ensures read { result ≡ field_at bytes.now w32
+    ensures { result ≡ field_at bytes.now w32
         (λ m. nat_le m (if is_last then extents else 0)) at }
-    ensures most { IfOk result (λ read. read.0 ≤ (if is_last then extents else 0)) }
-    ensures place { IfOk result (λ read. read.1 ≤ length bytes.now) }
 {
     let most = if is_last { extents } else { 0 };
     match number_u32(bytes, at) {
@@ -238,9 +206,7 @@ fn base_field(is_last: bool, extents: u32, bytes: &[u8], at: usize) -> Result<(u
 }
 
 fn tables_field(extents: u32, bytes: &[u8], at: usize) -> Result<(u32, usize), usize>
-    ensures read { result ≡ field_at bytes.now w32 (λ t. nat_le 1 t && nat_le t extents) at }
-    ensures some { IfOk result (λ read. 1 ≤ read.0) }
-    ensures place { IfOk result (λ read. read.1 ≤ length bytes.now) }
+    ensures { result ≡ field_at bytes.now w32 (λ t. nat_le 1 t && nat_le t extents) at }
 {
     match number_u32(bytes, at) {
         Some(tables) if 1 <= tables && tables <= extents => Ok((tables, at + 4)),
@@ -250,10 +216,8 @@ fn tables_field(extents: u32, bytes: &[u8], at: usize) -> Result<(u32, usize), u
 
 /// The number of groups, which is 0 above the last level.
 fn groups_field(is_last: bool, tables: u32, bytes: &[u8], at: usize) -> Result<(u32, usize), usize>
-    ensures read { result ≡ field_at bytes.now w32
+    ensures { result ≡ field_at bytes.now w32
         (λ g. g == (if is_last then groups_for tables else 0)) at }
-    ensures wanted { IfOk result (λ read. read.0 ≡ (if is_last then groups_for tables else 0)) }
-    ensures place { IfOk result (λ read. read.1 ≤ length bytes.now) }
 {
     let wanted = if is_last { tables.div_ceil(64) } else { 0 };
     match number_u32(bytes, at) {

@@ -2,6 +2,7 @@
 
 ghost use Rattle.std.specs.Prelude.{◌≡◌, ◌+◌, ◌*◌, ◌≤◌, ◌++◌, [], length, IfOk, vec_capacity};
 ghost use Rattle.lt_format.specs.Snapshot.{node_bytes, nodes_bytes, numbers, snapshot_bytes};
+ghost use Rattle.lt_manifest.specs.Spelling.{Adds, HasRoomFor};
 
 use lt_format::{Header, NodeId};
 use lt_node::NodeEntry;
@@ -56,8 +57,7 @@ fn node_len(entry: &NodeEntry) -> u32
 
 fn spell_nodes(bytes: &mut Vec<u8>, nodes: &[NodeEntry])
     requires few { length (nodes_bytes nodes.now) ≤ 305 * 4096 }
-    requires room { length bytes.old.items + length (nodes_bytes nodes.now)
-        ≤ vec_capacity bytes.old }
+    requires room { HasRoomFor bytes.old (nodes_bytes nodes.now) }
     ensures { bytes.new.items ≡ bytes.old.items ++ nodes_bytes nodes.now }
 {
     for entry in nodes {
@@ -67,10 +67,8 @@ fn spell_nodes(bytes: &mut Vec<u8>, nodes: &[NodeEntry])
 
 fn spell_node(bytes: &mut Vec<u8>, entry: &NodeEntry)
     requires few { length (node_bytes entry.now) ≤ 305 * 4096 }
-    requires room { length bytes.old.items + length (node_bytes entry.now)
-        ≤ vec_capacity bytes.old }
-    ensures bytes { bytes.new.items ≡ bytes.old.items ++ node_bytes entry.now }
-    ensures capacity { vec_capacity bytes.old ≤ vec_capacity bytes.new }
+    requires room { HasRoomFor bytes.old (node_bytes entry.now) }
+    ensures { Adds bytes.old (node_bytes entry.now) bytes.new }
 {
     let NodeId { level, number } = entry.node();
     add(bytes, &[level]);
@@ -83,9 +81,8 @@ fn spell_node(bytes: &mut Vec<u8>, entry: &NodeEntry)
 }
 
 fn spell_numbers(bytes: &mut Vec<u8>, list: &[u32])
-    requires { length bytes.old.items + length (numbers list.now) ≤ vec_capacity bytes.old }
-    ensures bytes { bytes.new.items ≡ bytes.old.items ++ numbers list.now }
-    ensures capacity { vec_capacity bytes.old ≤ vec_capacity bytes.new }
+    requires { HasRoomFor bytes.old (numbers list.now) }
+    ensures { Adds bytes.old (numbers list.now) bytes.new }
 {
     for number in list {
         add(bytes, &number.to_be_bytes());
@@ -94,9 +91,8 @@ fn spell_numbers(bytes: &mut Vec<u8>, list: &[u32])
 
 /// Puts bytes behind the others, where there is room.
 fn add(bytes: &mut Vec<u8>, more: &[u8])
-    requires { length bytes.old.items + length more.now ≤ vec_capacity bytes.old }
-    ensures bytes { bytes.new.items ≡ bytes.old.items ++ more.now }
-    ensures capacity { vec_capacity bytes.old ≤ vec_capacity bytes.new }
+    requires { HasRoomFor bytes.old more.now }
+    ensures { Adds bytes.old more.now bytes.new }
 {
     match bytes.extend_from_slice(more) {
         Ok(()) => {}

@@ -1,5 +1,5 @@
 use Rattle.std.proofs.Common.{◌≡◌, sym, subst}
-use Rattle.lt_tables.specs.Merge.{newest}
+use Rattle.lt_tables.specs.Table.{newest}
 use Rattle.lt_tables.proofs.NewestLaws.{newest-newest}
 use Rattle.lt_bench.proofs.stored.stored_items.Goals as goal
 

@@ -1,7 +1,7 @@
 use Rattle.std.proofs.Common.{subst, ◌∙◌, List, ℕ}
 use Rattle.std.proofs.lemmas.Result.{on_err_weaker}
 use Rattle.lt_io.proofs.Flows.{GainsFront-longer, GainsFront-more, GainsPart-front}
-use Rattle.lt_io.specs.Sink.{GainsFront}
+use Rattle.lt_io.specs.Streams.{GainsFront}
 use Rattle.lt_cli.proofs.telling.tell_number.Goals as goal
 use Rattle.lt_terms.proofs.CauseLaws.{OnErr-always}
 

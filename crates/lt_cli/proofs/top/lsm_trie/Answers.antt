@@ -26,6 +26,9 @@ returns-in-None-clause-init_end g c = λ e l s makes. c.in-None.ensures (Init e 
 pub returns-in-None-clause-small : goal.returns-in-None-clause-small
 returns-in-None-clause-small g c = λ e l s makes _. absurd (c.in-None.ensures (Init e l s) makes)
 
+pub returns-in-None-clause-seen : goal.returns-in-None-clause-seen
+returns-in-None-clause-seen g c = λ runs image opened shown opens. absurd (c.in-None.ensures Run runs)
+
 pub returns-in-None-clause-unopened : goal.returns-in-None-clause-unopened
 returns-in-None-clause-unopened g c = λ runs b fails. absurd (c.in-None.ensures Run runs)
 

@@ -24,5 +24,5 @@ returns-clause-placed g c = λ image shown.
     let new : State = g.D.Device.state c.write.new.self in
     let page : c.page-2.result.now ≡ filter_block items = c.page-2.ensures ∙ c.in_ok-filters.ensures in
     let is : new ≡ written old c.block_in.result (filter_block items) = subst (λ (p : List ℕ). new ≡ written old c.block_in.result p) page c.in_ok-write.ensures.ok in
-    let below : c.block_in.result < g.D.Device.blocks c.write_buckets.new.device = omega (arith, c.block_in.ensures, c.write_buckets.ensures.size, c.requires.within) in
+    let below : c.block_in.result < g.D.Device.blocks c.write_buckets.new.device = omega (arith, c.block_in.ensures, c.write_buckets.ensures.calls.size, c.requires.within) in
     placed-whole c.in_ok-placement.placement items c.args.first (g.D.Device.blocks c.write_buckets.new.device) c.block_in.result old new c.block_in.ensures below c.write.ensures.wrote.fit is c.in_ok-placement.ensures.placement c.in_ok-write_buckets.ensures.buckets image shown

@@ -1,4 +1,5 @@
-use Rattle.std.proofs.Common.{◌≡◌, ◌≤◌}
+use Rattle.std.proofs.Common.{◌≡◌}
+use Rattle.lt_device.specs.Calls.{OnlyWrites}
 use Rattle.lt_device.specs.Moments.{ConfinedTo, ShowsSameOutside}
 use Rattle.lt_htable.specs.Building.{HasBuckets, InExtent}
 use Rattle.lt_htable.proofs.building.write_buckets.Given as goal
@@ -10,7 +11,5 @@ invariant-loop-column g l = record {
   confined : ConfinedTo (InExtent l.first) (g.D.Device.state l.fn.device) (g.D.Device.state l.device);
   others : ShowsSameOutside (InExtent l.first) (g.D.Device.state l.fn.device).shown (g.D.Device.state l.device).shown;
   no_sync : (g.D.Device.state l.device).past ≡ (g.D.Device.state l.fn.device).past;
-  size : g.D.Device.blocks l.device ≡ g.D.Device.blocks l.fn.device;
-  count : g.D.Device.reads l.device ≡ g.D.Device.reads l.fn.device;
-  faults : g.D.Device.faults l.fn.device ≤ g.D.Device.faults l.device;
+  calls : OnlyWrites g.D.Device ⊥ l.fn.device l.device;
 }

@@ -1,6 +1,6 @@
 use Rattle.std.proofs.Common.{◌∙◌, ap, map, refl}
-use Rattle.lt_tables.specs.Cut.{cut_counts}
 use Rattle.std.proofs.Common.{List}
+use Rattle.lt_tables.specs.Cut.{cut_counts}
 use Rattle.std.specs.Borrow.{Bor}
 use Rattle.lt_terms.specs.Items.{Item}
 use Rattle.lt_htable.proofs.PartLaws.{parts-of, parts-count, parts-fewer, parts-some}

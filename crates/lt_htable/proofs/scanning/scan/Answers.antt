@@ -1,5 +1,6 @@
 use Rattle.std.proofs.Common.{◌≡◌, ℕ, ◌+◌, ◌++◌, List, refl, sym, ap, subst, ◌∙◌, arith, length, length-append}
 use Rattle.lt_terms.specs.Items.{Item}
+use Rattle.lt_device.proofs.CallLaws.{reads_more}
 use Rattle.lt_device.specs.State.{State}
 use Rattle.lt_htable.specs.Reading.{IsRead}
 use Rattle.lt_tables.specs.Alike.{SameNewest, HasOnce}
@@ -13,10 +14,7 @@ loop-column-init g c =
     record {
       scanned = subst (λ (items : List Item). IsScannedTo 0 shown c.args.first items) (sym c.new-items.ensures.items) (scanned-none shown c.args.first);
       few = let none = ap length c.new-items.ensures.items in omega (arith, none);
-      state = refl;
-      size = refl;
-      count = record { later = omega arith; at_most = omega arith };
-      faults = omega arith;
+      calls = record { state = refl; size = refl; count = record { later = omega arith; at_most = omega arith }; later = omega arith; cause = λ never. absurd never };
     }
 
 pub loop-column-preserved : goal.loop-column-preserved
@@ -25,15 +23,12 @@ loop-column-preserved g c =
     let before = c.loop-column.invariant in
     let n : ℕ = c.loop-column.column in
     let page : List ℕ = c.in_ok-bucket.bucket in
-    let read : IsRead shown (c.args.first + n) page = subst (λ (s : State). IsRead s.shown (c.args.first + n) page) before.state c.in_ok-bucket.ensures.read in
+    let read : IsRead shown (c.args.first + n) page = subst (λ (s : State). IsRead s.shown (c.args.first + n) page) before.calls.state c.in_ok-bucket.ensures.read in
     let items = c.in_ok-push_all.ensures ∙ ap (λ (more : List Item). c.loop-column.items.items ++ more) c.items.ensures.items in
     record {
       scanned = subst (λ (items : List Item). IsScannedTo (n + 1) shown c.args.first items) (sym items) (scanned-more n shown c.args.first c.loop-column.items.items page before.scanned read c.in_ok-bucket.ensures.spelled);
       few = let size = ap length c.in_ok-push_all.ensures ∙ length-append c.loop-column.items.items c.items.result in omega (arith, size, before.few, c.items.ensures.few);
-      state = c.read_bucket.ensures.state ∙ before.state;
-      size = c.read_bucket.ensures.size ∙ before.size;
-      count = record { later = omega (arith, before.count.later, c.read_bucket.ensures.count.later); at_most = omega (arith, before.count.later, before.count.at_most, c.read_bucket.ensures.count.later, c.read_bucket.ensures.count.at_most_one) };
-      faults = omega (arith, before.faults, c.read_bucket.ensures.later);
+      calls = reads_more (omega arith) before.calls c.read_bucket.ensures.calls;
     }
 
 pub returns-clause-items : goal.returns-clause-items

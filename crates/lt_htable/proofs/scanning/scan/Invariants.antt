@@ -1,5 +1,5 @@
-use Rattle.std.proofs.Common.{◌≡◌, ◌*◌, ◌≤◌, length}
-use Rattle.lt_device.specs.Reads.{CountsAtMost}
+use Rattle.std.proofs.Common.{◌*◌, ◌≤◌, length}
+use Rattle.lt_device.specs.Calls.{OnlyReads}
 use Rattle.lt_htable.proofs.ScanLaws.{IsScannedTo}
 use Rattle.lt_htable.proofs.scanning.scan.Given as goal
 
@@ -8,8 +8,5 @@ abbrev pub invariant-loop-column : goal.invariant-loop-column
 invariant-loop-column g l = record {
   scanned : IsScannedTo l.column (g.D.Device.state l.fn.device).shown l.first l.items.items;
   few : length l.items.items ≤ 816 * l.column;
-  state : g.D.Device.state l.device ≡ g.D.Device.state l.fn.device;
-  size : g.D.Device.blocks l.device ≡ g.D.Device.blocks l.fn.device;
-  count : CountsAtMost l.column (g.D.Device.reads l.fn.device) (g.D.Device.reads l.device);
-  faults : g.D.Device.faults l.fn.device ≤ g.D.Device.faults l.device;
+  calls : OnlyReads g.D.Device l.column ⊥ l.fn.device l.device;
 }

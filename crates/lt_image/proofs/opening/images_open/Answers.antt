@@ -1,9 +1,9 @@
 use Rattle.std.specs.Prelude.{IsTrue}
 use Rattle.std.proofs.lemmas.List.Elements.{All-from_recursion}
 use Rattle.lt_terms.specs.Items.{Item, is_valid}
-use Rattle.lt_tables.specs.Merge.{newest}
+use Rattle.lt_tables.specs.Table.{newest}
 use Rattle.lt_tables.proofs.RankedLaws.{each_newest}
-use Rattle.lt_image.specs.Opening.{log_items}
+use Rattle.lt_image.specs.Versions.{log_items}
 use Rattle.lt_image.proofs.OpenLaws.{is-opens, opens-is, opens-log, log_items-valid}
 use Rattle.lt_image.proofs.opening.images_open.Goals as goal
 

@@ -1,5 +1,5 @@
 use Rattle.std.proofs.Common.{◌-◌, ◌≤◌, length, take}
-use Rattle.lt_io.specs.Sink.{Gains}
+use Rattle.lt_io.specs.Streams.{Gains}
 use Rattle.lt_io.proofs.sink.write_all.Given as goal
 
 abbrev pub invariant-loop-written : goal.invariant-loop-written

@@ -1,24 +1,17 @@
 use Rattle.std.proofs.Common.{◌≡◌, ◌+◌, ◌<◌, ◌∙◌, ap, arith}
 use Rattle.lt_device.specs.State.{State}
 use Rattle.lt_device.proofs.CallLaws.{writes_block}
-use Rattle.lt_device.proofs.Runs.{confined_writes}
 use Rattle.lt_format.specs.Layout.{area_block}
 use Rattle.lt_manifest.specs.Written.{InArea, page_of}
+use Rattle.lt_manifest.proofs.TouchLaws.{touches-writes}
 use Rattle.lt_manifest.proofs.WriteLaws.{written-more}
 use Rattle.lt_manifest.proofs.area.write_pages.Goals as goal
-use Rattle.lt_device.proofs.Shows.{shows-writes}
 
-pub returns-in_err-write-clause-confined : goal.returns-in_err-write-clause-confined
-returns-in_err-write-clause-confined g c =
+pub returns-in_err-write-clause-touches : goal.returns-in_err-write-clause-touches
+returns-in_err-write-clause-touches g c =
     let low : c.loop-block.block < 305 = omega (arith, c.loop-block-test.true, c.div_ceil-block-end.ensures, c.requires.room) in
     let inside : InArea c.args.area (c.area-first.result + c.loop-block.block) = (omega (arith, c.area-first.ensures), omega (arith, c.area-first.ensures, low)) in
-    confined_writes c.write.ensures.wrote c.loop-block.invariant.confined inside
-
-pub returns-in_err-write-clause-others : goal.returns-in_err-write-clause-others
-returns-in_err-write-clause-others g c =
-    let low : c.loop-block.block < 305 = omega (arith, c.loop-block-test.true, c.div_ceil-block-end.ensures, c.requires.room) in
-    let inside : InArea c.args.area (c.area-first.result + c.loop-block.block) = (omega (arith, c.area-first.ensures), omega (arith, c.area-first.ensures, low)) in
-    shows-writes (InArea c.args.area) _ _ _ _ _ c.write.ensures.wrote inside c.loop-block.invariant.others
+    touches-writes c.loop-block.invariant.touches c.write.ensures.wrote inside
 
 pub loop-block-preserved : goal.loop-block-preserved
 loop-block-preserved g c =
@@ -30,8 +23,7 @@ loop-block-preserved g c =
     let in_range : c.area-first.result + c.loop-block.block < g.D.Device.blocks c.loop-block.device = omega (arith, c.area-first.ensures, low, so_far.calls.size, c.requires.within, c.requires.area) in
     record {
       written = written-more (λ k. area_block c.args.area + k) (page_of c.args.bytes.now) c.loop-block.block _ _ _ _ _ at (λ k earlier e. omega arith) in_range write.wrote.fit c.in_ok-write.ensures.ok c.fill_page.ensures so_far.written;
-      confined = confined_writes write.wrote so_far.confined inside;
-      others = shows-writes (InArea c.args.area) _ _ _ _ _ write.wrote inside so_far.others;
+      touches = touches-writes so_far.touches write.wrote inside;
       past = ap (λ (s : State). s.past) write.wrote.is ∙ so_far.past;
       calls = writes_block so_far.calls write.size write.count write.cause;
     }

@@ -3,7 +3,7 @@ use Rattle.std.specs.List.{fold, list_all}
 use Rattle.std.specs.FinMap.{put}
 use Rattle.lt_terms.specs.Hashes.{rank_cmp}
 use Rattle.lt_terms.specs.Items.{Item, is_valid}
-use Rattle.lt_tables.specs.Merge.{ranked}
+use Rattle.lt_tables.specs.Table.{ranked}
 use Rattle.lt_mem.specs.Ranking.{ranked_entries, AreRanked}
 use Rattle.lt_mem.proofs.ranking.by_rank.Given as goal
 

@@ -1,5 +1,5 @@
 use Rattle.std.proofs.Common.{◌≡◌, ◌≤◌, length, take}
-use Rattle.lt_tables.specs.Merge.{with_digit}
+use Rattle.lt_tables.specs.Table.{with_digit}
 use Rattle.lt_merge.proofs.dealing.count.Given as goal
 
 abbrev pub invariant-loop-item : goal.invariant-loop-item

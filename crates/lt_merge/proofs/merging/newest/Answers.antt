@@ -3,7 +3,7 @@ use Rattle.std.specs.Prelude.{slice_get, slice_index_or}
 use Rattle.std.specs.List.{flat_map}
 use Rattle.lt_bucket.specs.declared.owned.Item.{Item}
 use Rattle.lt_terms.specs.Items as terms
-use Rattle.lt_tables.specs.Merge.{newest}
+use Rattle.lt_tables.specs.Table.{newest}
 use Rattle.lt_merge.specs.Places.{AreApart, AreFilled}
 use Rattle.lt_merge.proofs.PlaceLaws.{places-apart, places-filled, moved-newest, all-moved}
 use Rattle.lt_merge.proofs.merging.newest.Goals as goal

@@ -4,7 +4,7 @@ use Rattle.std.specs.Prelude.{slice_get}
 use Rattle.std.proofs.lemmas.List.{length-map}
 use Rattle.lt_bucket.specs.declared.owned.Item.{Item}
 use Rattle.lt_terms.specs.Items as terms
-use Rattle.lt_tables.specs.Merge.{newest}
+use Rattle.lt_tables.specs.Table.{newest}
 use Rattle.lt_merge.specs.Places.{PointTo}
 use Rattle.lt_merge.proofs.PlaceLaws.{points-newest}
 use Rattle.lt_merge.proofs.places.places_of.Goals as goal

@@ -1,6 +1,6 @@
 use Rattle.std.proofs.Common.{rules}
 use Rattle.std.proofs.lemmas.List.Elements.{filter_from_retain}
-use Rattle.lt_tables.specs.Merge.{is_put}
+use Rattle.lt_tables.specs.Table.{is_put}
 use Rattle.lt_merge.proofs.puts.without_deletes.Goals as goal
 
 pub returns : goal.returns

@@ -1,7 +1,7 @@
 use Rattle.std.proofs.Common.{subst, sym, map, ◌++◌}
-use Rattle.lt_format.specs.Changes.{new_extents}
+use Rattle.lt_format.specs.Changes.{given_extents, new_extents}
 use Rattle.lt_node.specs.Changing.{change_of, child_of}
-use Rattle.lt_node.specs.Marks.{MarksNew, given_extents}
+use Rattle.lt_node.specs.Marks.{MarksNew}
 use Rattle.lt_node.proofs.fitting.mark_change.Goals as goal
 
 pub returns-in-Flush : goal.returns-in-Flush

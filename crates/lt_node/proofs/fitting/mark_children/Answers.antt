@@ -1,6 +1,6 @@
 use Rattle.std.proofs.Common.{◌≡◌, ◌+◌, ◌++◌, subst, sym, length, take, drop, map, true, false}
 use Rattle.std.proofs.lemmas.List.{take_all}
-use Rattle.lt_node.specs.Marks.{given_extents}
+use Rattle.lt_format.specs.Changes.{given_extents}
 use Rattle.lt_node.specs.Changing.{child_of}
 use Rattle.lt_node.proofs.MarkLaws.{TellsMore, tells_begin, tells_next, tells_stop, given_more, given_cut}
 use Rattle.lt_node.proofs.fitting.mark_children.Goals as goal

@@ -1,5 +1,5 @@
 use Rattle.std.specs.Prelude.{take, length, true, map}
-use Rattle.lt_node.specs.Marks.{given_extents}
+use Rattle.lt_format.specs.Changes.{given_extents}
 use Rattle.lt_node.specs.Changing.{child_of}
 use Rattle.lt_node.proofs.MarkLaws.{TellsMore}
 use Rattle.lt_node.proofs.fitting.mark_children.Given as goal

@@ -1,8 +1,8 @@
 use Rattle.std.proofs.Common.{◌≡◌, ℕ, ◌+◌, ◌<◌, sym, ap, subst, ◌∙◌, inl, inr, length, arith}
+use Rattle.std.proofs.Common.{List, true}
 use Rattle.std.proofs.lemmas.Result.{on_ok_weaker}
 use Rattle.lt_device.proofs.Runs.{syncs, confined_begins, confined_writes}
 use Rattle.lt_device.proofs.Rest.{unsynced_none}
-use Rattle.std.proofs.Common.{List, true}
 use Rattle.lt_device.specs.State.{written}
 use Rattle.lt_format.specs.Layout.{log_gate, log_content, gate_page}
 use Rattle.lt_redo.proofs.CommitLaws.{wrote_at, written_at, content_written, not_longer, gate_written, committed, pages_written}

@@ -1,5 +1,5 @@
 use Rattle.std.proofs.Common.{◌+◌, ◌≤◌, ℕ, List, length, subst, take, arith}
-use Rattle.lt_io.specs.Sink.{Gains}
+use Rattle.lt_io.specs.Streams.{Gains}
 use Rattle.lt_serve.proofs.SendLaws.{sends-none, sends-more}
 use Rattle.lt_serve.proofs.sending.emit.Goals as goal
 

@@ -1,9 +1,11 @@
-use Rattle.std.proofs.Common.{refl, ◌∙◌, IsErrOf, rules, arith}
-use Rattle.lt_serve.specs.declared.served.Served.TheVariants as served
+use Rattle.std.proofs.Common.{ap, refl, ◌∙◌, Err, arith}
 use Rattle.lt_serve.proofs.TurnLaws.{turned-none, turned-pause, turned-more, turned-last, rose-more}
+use Rattle.lt_serve.proofs.CallLaws.{fails-behind, fails-still, gives-behind, gives-none, gives-still, takes-behind, takes-still}
 use Rattle.lt_serve.proofs.SendLaws.{gains_some-none, gains_some-more}
 use Rattle.lt_serve.proofs.SizeLaws.{sizes-same, sizes-more, stops-same}
 use Rattle.lt_serve.proofs.turns.serve_open.Goals as goal
+use Rattle.lt_serve.specs.View.{kept_in, store_in}
+use Rattle.lt_serve.proofs.SightLaws.{served-none, serves-last, serves-more, serves-still}
 
 pub returns-in_default-clause-over : goal.returns-in_default-clause-over
 returns-in_default-clause-over g c = λ before opened. (tt, turned-pause _ before _ _ _ _ _ _ _ _ (turned-none _ before _ _ _ _ _ c.requires.none opened) _ _ _ (λ done. absurd (cc (done))))
@@ -13,8 +15,7 @@ returns-in_default-new-clause-over g c = λ before opened. (tt, turned-pause _ b
 
 pub loop-number-init : goal.loop-number-init
 loop-number-init g c = record {
-  up = c.requires.up;
-  none = c.in-Ok-new.ensures;
+  ready = record { up = c.requires.up; none = c.in-Ok-new.ensures; within = c.requires.within };
   sizes = sizes-same _;
   size = refl;
   source_later = omega arith;
@@ -23,6 +24,7 @@ loop-number-init g c = record {
   device_later = omega arith;
   most = omega arith;
   pieces = omega arith;
+  sees = λ image shown. served-none (store_in c.args.session.now) image (kept_in c.args.session.now) (g.D.Device.state c.args.device.now) _ _ c.requires.none (c.args.session.now.idle c.requires.up).durable;
   on = λ before opened. turned-none _ before _ _ _ _ _ c.requires.none opened;
 }
 
@@ -30,38 +32,91 @@ pub returns-in-Err-clause-over : goal.returns-in-Err-clause-over
 returns-in-Err-clause-over g c = λ before opened.
     let so_far = c.loop-number.invariant in
     let t = so_far.on before opened in
-    turned-last _ before _ _ _ _ _ _ _ _ t _ so_far.sizes.extents _ _ _ c.in-Err.served _ _ _ so_far.sink_later (c.in-Err.ensures.over before t.taken t.on.added (g.D.Device.state c.args.device.now))
+    turned-last _ before _ _ _ _ _ _ _ _ t _ so_far.sizes.extents _ _ _ c.in-Err.served _ _ _ so_far.sink_later (c.in-Err.ensures.over.0 before t.taken t.on.added (g.D.Device.state c.args.device.now))
 
 pub loop-number-preserved : goal.loop-number-preserved
 loop-number-preserved g c =
     let so_far = c.loop-number.invariant in
     let turn = c.in_default-turn.ensures in
     record {
-      up = turn.up;
-      none = turn.none;
-      sizes = sizes-more _ _ _ so_far.sizes turn.sizes;
-      size = turn.size ∙ so_far.size;
-      source_later = omega (arith, so_far.source_later, turn.source_later);
-      sink_later = omega (arith, so_far.sink_later, turn.sink_later);
-      sink_gains = gains_some-more _ _ _ so_far.sink_gains turn.sink_gains;
-      device_later = omega (arith, so_far.device_later, turn.device_later);
+      ready = turn.ready;
+      sizes = sizes-more _ _ _ so_far.sizes turn.device.sizes;
+      size = turn.device.size ∙ so_far.size;
+      source_later = omega (arith, so_far.source_later, turn.source.later);
+      sink_later = omega (arith, so_far.sink_later, turn.sink.later);
+      sink_gains = gains_some-more _ _ _ so_far.sink_gains turn.sink.gains;
+      device_later = omega (arith, so_far.device_later, turn.device.later);
       most = omega (arith, so_far.most, turn.one_piece);
       pieces = rose-more c.loop-number.number _ _ _ so_far.pieces turn.pieces;
+      sees = λ image shown.
+          let m = so_far.sees image shown in
+          serves-more _ _ _ _ _ _ _ _ _ _ m _ _ _ _ _ (turn.on.1 (store_in c.args.session.now) image m.0 m.2.added (g.D.Device.state c.args.device.now) shown m.2.lines);
       on = λ before opened.
           let t = so_far.on before opened in
-          turned-more _ before _ _ _ _ _ _ _ _ t _ so_far.sizes.extents _ _ _ _ _ (turn.on before t.taken t.on.added (g.D.Device.state c.args.device.now));
+          turned-more _ before _ _ _ _ _ _ _ _ t _ so_far.sizes.extents _ _ _ _ _ (turn.on.0 before t.taken t.on.added (g.D.Device.state c.args.device.now));
     }
 
 pub returns-clause-over : goal.returns-clause-over
 returns-clause-over g c = λ before opened. (tt, turned-pause _ before _ _ _ _ _ _ _ _ (c.loop-number.invariant.on before opened) _ _ _ (λ done. absurd (cc (done))))
 
-pub returns-in-Err-clause-sink_gains : goal.returns-in-Err-clause-sink_gains
-returns-in-Err-clause-sink_gains g c = gains_some-more _ _ _ c.loop-number.invariant.sink_gains c.in-Err.ensures.sink_gains
-
-pub returns-clause-sink_gains : goal.returns-clause-sink_gains
-returns-clause-sink_gains g c = c.loop-number.invariant.sink_gains
-
 pub returns-in-Err-clause-damaged : goal.returns-in-Err-clause-damaged
-returns-in-Err-clause-damaged g c = λ b is.
-    let was : IsErrOf c.turn.result (served.Damaged b) = search rules in
-    stops-same _ _ b _ c.loop-number.invariant.sizes (c.turn.ensures.damaged b was)
+returns-in-Err-clause-damaged g c = λ b is. stops-same _ _ b _ c.loop-number.invariant.sizes (c.in-Err.ensures.device.damaged b (ap Err is))
+
+pub returns-in_default-clause-source : goal.returns-in_default-clause-source
+returns-in_default-clause-source g c = takes-still _ _ (omega arith) (λ is. absurd (cc (is)))
+
+pub returns-in_default-clause-sink : goal.returns-in_default-clause-sink
+returns-in_default-clause-sink g c = gives-none _ (λ is. absurd (cc (is)))
+
+pub returns-in_default-clause-device : goal.returns-in_default-clause-device
+returns-in_default-clause-device g c = fails-still _ _ (omega arith) (λ is. absurd (cc (is)))
+
+pub returns-in_default-new-clause-source : goal.returns-in_default-new-clause-source
+returns-in_default-new-clause-source g c = takes-still _ _ (omega arith) (λ is. absurd (cc (is)))
+
+pub returns-in_default-new-clause-sink : goal.returns-in_default-new-clause-sink
+returns-in_default-new-clause-sink g c = gives-none _ (λ is. absurd (cc (is)))
+
+pub returns-in_default-new-clause-device : goal.returns-in_default-new-clause-device
+returns-in_default-new-clause-device g c = fails-still _ _ (omega arith) (λ is. absurd (cc (is)))
+
+pub returns-in-Err-clause-source : goal.returns-in-Err-clause-source
+returns-in-Err-clause-source g c = takes-behind _ _ _ c.loop-number.invariant.source_later (λ is. ap Err is) c.in-Err.ensures.source
+
+pub returns-in-Err-clause-sink : goal.returns-in-Err-clause-sink
+returns-in-Err-clause-sink g c =
+    let so_far = c.loop-number.invariant in
+    gives-behind _ _ _ so_far.sink_gains so_far.sink_later (λ is. ap Err is) c.in-Err.ensures.sink
+
+pub returns-in-Err-clause-device : goal.returns-in-Err-clause-device
+returns-in-Err-clause-device g c =
+    let device = c.in-Err.ensures.device in
+    fails-behind _ _ _ c.loop-number.invariant.device_later device.later (λ is. device.cause (ap Err is))
+
+pub returns-clause-source : goal.returns-clause-source
+returns-clause-source g c = takes-still _ _ c.loop-number.invariant.source_later (λ is. absurd (cc (is)))
+
+pub returns-clause-sink : goal.returns-clause-sink
+returns-clause-sink g c =
+    let so_far = c.loop-number.invariant in
+    gives-still _ _ so_far.sink_gains so_far.sink_later (λ is. absurd (cc (is)))
+
+pub returns-clause-device : goal.returns-clause-device
+returns-clause-device g c = fails-still _ _ c.loop-number.invariant.device_later (λ is. absurd (cc (is)))
+
+pub returns-in_default-clause-seen : goal.returns-in_default-clause-seen
+returns-in_default-clause-seen g c = λ image shown.
+    serves-still _ _ _ _ _ _ _ _ _ _ (served-none (store_in c.args.session.now) image (kept_in c.args.session.now) (g.D.Device.state c.args.device.now) _ _ c.requires.none (c.args.session.now.idle c.requires.up).durable) _ (λ is. absurd (cc (is))) (λ b is. absurd (cc (is)))
+
+pub returns-in_default-new-clause-seen : goal.returns-in_default-new-clause-seen
+returns-in_default-new-clause-seen g c = λ image shown.
+    serves-still _ _ _ _ _ _ _ _ _ _ (served-none (store_in c.args.session.now) image (kept_in c.args.session.now) (g.D.Device.state c.args.device.now) _ _ c.requires.none (c.args.session.now.idle c.requires.up).durable) _ (λ is. absurd (cc (is))) (λ b is. absurd (cc (is)))
+
+pub returns-in-Err-clause-seen : goal.returns-in-Err-clause-seen
+returns-in-Err-clause-seen g c = λ image shown.
+    let m = c.loop-number.invariant.sees image shown in
+    let last = c.in-Err.ensures.over.1 (store_in c.args.session.now) image m.0 m.2.added (g.D.Device.state c.args.device.now) shown m.2.lines in
+    serves-last _ _ _ _ _ _ _ _ _ _ m _ _ _ last
+
+pub returns-clause-seen : goal.returns-clause-seen
+returns-clause-seen g c = λ image shown. serves-still _ _ _ _ _ _ _ _ _ _ (c.loop-number.invariant.sees image shown) _ (λ is. absurd (cc (is))) (λ b is. absurd (cc (is)))

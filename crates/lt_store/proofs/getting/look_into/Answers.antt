@@ -4,7 +4,7 @@ use Rattle.lt_terms.specs.Items.{Item}
 use Rattle.lt_item.specs.Views.{item_of}
 use Rattle.lt_htable.specs.declared.faults.LookFault.TheVariants.{Damaged}
 use Rattle.lt_htable.specs.Reading.{IsLookedUp}
-use Rattle.lt_tables.specs.Merge.{newest_of}
+use Rattle.lt_tables.specs.Table.{newest_of}
 use Rattle.lt_store.specs.Getting.{IsVersion}
 use Rattle.lt_store.proofs.LookLaws.{looked_up-damaged, looked_up-valid}
 use Rattle.lt_store.proofs.SeenLaws.{found-seen}

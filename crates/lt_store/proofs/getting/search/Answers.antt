@@ -6,9 +6,10 @@ use Rattle.std.proofs.lemmas.Result.{err_from_is_err_and}
 use Rattle.lt_device.specs.State.{State}
 use Rattle.lt_device.specs.Reads.{CountsAtMost}
 use Rattle.lt_terms.specs.Items.{Item}
-use Rattle.lt_tables.specs.Merge.{newest, newest_of}
+use Rattle.lt_tables.specs.Table.{newest, newest_of}
 use Rattle.lt_image.specs.Versions.{items_at, pile_items}
-use Rattle.lt_store.specs.Getting.{IsAnswer, IsReadable, IsSeen, may_hold, seen}
+use Rattle.lt_store.specs.Getting.{IsAnswer, IsReadable, IsSeen, may_hold}
+use Rattle.lt_store.specs.Promise.{seen}
 use Rattle.lt_htable.specs.declared.faults.LookFault.{LookFault}
 use Rattle.lt_store.proofs.PileLaws.{all_at, placed-at, pile-found, pile-none, pile-skipped, same_page, answer-fault, held-before, count-behind, count-asked, count-passed, count-part, counts-more, counts-fewer}
 use Rattle.lt_store.proofs.SeenLaws.{fault-above, found-above, none-above, skipped-seen}
@@ -63,7 +64,7 @@ stops_here held key p tables i j a b none below found h =
     counts-fewer (2 * count_by p (drop (i - 1) tables)) (2 * count_by p (drop j tables)) a b h (omega (arith, fewer))
 
 pub returns-in_err-version-clause-stops : goal.returns-in_err-version-clause-stops
-returns-in_err-version-clause-stops g c = λ image j told readable holds.
+returns-in_err-version-clause-stops g c = λ image told readable j holds.
     let p = may_hold c.args.filters.now c.args.key.now in
     let tables : List ℕ = c.args.tables.now in
     let key : List ℕ = c.args.key.now in
@@ -71,7 +72,7 @@ returns-in_err-version-clause-stops g c = λ image j told readable holds.
     (count_here p tables c.loop-i.i _ _ _ c.loop-i-test.true (omega arith) (sym c.may_hold.ensures ∙ c.if-may_hold.true) c.loop-i.invariant.calls.count c.look_into.ensures.calls.count)
 
 pub returns-then-is_some-clause-stops : goal.returns-then-is_some-clause-stops
-returns-then-is_some-clause-stops g c = λ image j told readable holds.
+returns-then-is_some-clause-stops g c = λ image told readable j holds.
     let p = may_hold c.args.filters.now c.args.key.now in
     let tables : List ℕ = c.args.tables.now in
     let key : List ℕ = c.args.key.now in
@@ -79,7 +80,7 @@ returns-then-is_some-clause-stops g c = λ image j told readable holds.
     (count_here p tables c.loop-i.i _ _ _ c.loop-i-test.true (omega arith) (sym c.may_hold.ensures ∙ c.if-may_hold.true) c.loop-i.invariant.calls.count c.look_into.ensures.calls.count)
 
 pub returns-clause-stops : goal.returns-clause-stops
-returns-clause-stops g c = λ image j told readable holds.
+returns-clause-stops g c = λ image told readable j holds.
     let key : List ℕ = c.args.key.now in
     let before = held-before (items_at c.args.geometry.now image) key c.args.tables.now c.loop-i.i j (c.loop-i.invariant.none image told readable) holds.within holds.held in
     absurd (omega (arith, before, c.loop-i-test.false))
@@ -143,7 +144,7 @@ loop-i-preserved-else-is_some g c =
           let here = c.in_ok-version.ensures.seen image (ap (λ (s : State). s.shown) so_far.calls.state ∙ told) in
           none-above c.args.geometry.now c.args.filters.now image key tables c.loop-i.i j (omega arith) below (so_far.sees image told)
           c.extent-first.result c.extent-first.ensures (sym c.may_hold.ensures ∙ c.if-may_hold.true) c.in_ok-version.version c.loop-i.out c.look_into.new.out (sym c.is_some.ensures ∙ c.if-is_some.false) here;
-      out = same_page c.in_ok-version.version c.loop-i.out c.look_into.new.out (sym c.is_some.ensures ∙ c.if-is_some.false) c.in_ok-version.ensures.page ∙ so_far.out;
+      out = same_page c.in_ok-version.version c.loop-i.out c.look_into.new.out (sym c.is_some.ensures ∙ c.if-is_some.false) c.in_ok-version.ensures.found.page ∙ so_far.out;
       calls = record {
         state = asked.state ∙ so_far.calls.state;
         size = asked.size ∙ so_far.calls.size;

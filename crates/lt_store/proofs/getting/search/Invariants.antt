@@ -3,9 +3,10 @@ use Rattle.std.specs.Prelude.{count_by}
 use Rattle.std.specs.List.{AllByRecursion}
 use Rattle.lt_terms.specs.Bytes.{Image}
 use Rattle.lt_device.specs.Calls.{OnlyReads}
-use Rattle.lt_tables.specs.Merge.{newest_of}
+use Rattle.lt_tables.specs.Table.{newest_of}
 use Rattle.lt_image.specs.Versions.{pile_items}
-use Rattle.lt_store.specs.Getting.{IsReadable, may_hold, seen}
+use Rattle.lt_store.specs.Getting.{IsReadable, may_hold}
+use Rattle.lt_store.specs.Promise.{seen}
 use Rattle.lt_store.proofs.getting.search.Given as goal
 
 -- none of the tables that were asked has the key

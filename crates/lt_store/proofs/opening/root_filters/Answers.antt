@@ -3,7 +3,7 @@ use Rattle.lt_device.proofs.CallLaws.{reads_more}
 use Rattle.lt_device.specs.State.{State}
 use Rattle.lt_format.specs.Layout.{extent_block}
 use Rattle.lt_format.specs.Trie.{root, node_at}
-use Rattle.lt_store.specs.Open.{root_pile}
+use Rattle.lt_store.specs.Promise.{root_pile}
 use Rattle.lt_store.proofs.FilterLaws.{AreKept-none, AreKept-more, AreKept-all, pile-below}
 use Rattle.lt_store.proofs.opening.root_filters.Goals as goal
 

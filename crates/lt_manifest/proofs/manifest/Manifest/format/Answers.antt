@@ -1,13 +1,10 @@
 use Rattle.std.proofs.Common.{ℕ, List, ◌∙◌, refl, inl, inr, ap, sym, subst, length, IsTrue, arith}
-use Rattle.lt_device.proofs.Runs.{confined_widens, confined_writes}
-use Rattle.lt_format.specs.Snapshot.{extents_stand}
-use Rattle.lt_format.specs.Naming.{InManifest}
-use Rattle.lt_manifest.specs.Opened.{fresh}
+use Rattle.lt_format.specs.Snapshot.{extents_stand, InManifest}
+use Rattle.lt_manifest.specs.Promise.{fresh}
 use Rattle.lt_manifest.proofs.ManifestLaws.{bytes-fit, roomy-below, fresh-stands, fresh-written, fresh-named}
-use Rattle.lt_manifest.proofs.AreaLaws.{area-closed}
-use Rattle.lt_manifest.specs.Written.{HasSelected, InArea, InSelected}
+use Rattle.lt_manifest.proofs.TouchLaws.{touches-widens, touches-writes}
+use Rattle.lt_manifest.specs.Written.{HasSelected, InSelected}
 use Rattle.lt_manifest.proofs.manifest.Manifest.format.Goals as goal
-use Rattle.lt_device.proofs.Shows.{shows-widens, shows-writes}
 
 pub spell-requires-clause-few : goal.spell-requires-clause-few
 spell-requires-clause-few g c = bytes-fit c.args.geometry.now (g.D.Device.blocks c.args.device.now) (fresh c.args.geometry.now c.args.extents).manifest (fresh-stands c.args.geometry.now (g.D.Device.blocks c.args.device.now) c.args.extents c.requires.stands)
@@ -16,13 +13,22 @@ pub fill_area-requires-clause-room : goal.fill_area-requires-clause-room
 fill_area-requires-clause-room g c = omega (arith, ap length (c.deref.ensures.value ∙ c.spell.ensures), bytes-fit c.args.geometry.now (g.D.Device.blocks c.args.device.now) (fresh c.args.geometry.now c.args.extents).manifest (fresh-stands c.args.geometry.now (g.D.Device.blocks c.args.device.now) c.args.extents c.requires.stands))
 
 pub returns-in_err-fill_area-clause-confined : goal.returns-in_err-fill_area-clause-confined
-returns-in_err-fill_area-clause-confined g c = confined_widens c.fill_area.ensures.confined (λ k inside. (omega (arith, inside.0), omega (arith, inside.1)))
+returns-in_err-fill_area-clause-confined g c = (touches-widens {inside = InManifest} c.fill_area.ensures.touches (λ k inside. (omega (arith, inside.0), omega (arith, inside.1)))).confined
+
+pub returns-in_err-fill_area-clause-others : goal.returns-in_err-fill_area-clause-others
+returns-in_err-fill_area-clause-others g c = (touches-widens {inside = InManifest} c.fill_area.ensures.touches (λ k inside. (omega (arith, inside.0), omega (arith, inside.1)))).others
 
 pub returns-in_err-write-clause-confined : goal.returns-in_err-write-clause-confined
-returns-in_err-write-clause-confined g c = confined_writes c.write.ensures.wrote (confined_widens {T = InManifest} c.fill_area.ensures.confined (λ k inside. (omega (arith, inside.0), omega (arith, inside.1)))) (omega arith, omega arith)
+returns-in_err-write-clause-confined g c = (touches-writes (touches-widens {inside = InManifest} c.fill_area.ensures.touches (λ k inside. (omega (arith, inside.0), omega (arith, inside.1)))) c.write.ensures.wrote (omega arith, omega arith)).confined
+
+pub returns-in_err-write-clause-others : goal.returns-in_err-write-clause-others
+returns-in_err-write-clause-others g c = (touches-writes (touches-widens {inside = InManifest} c.fill_area.ensures.touches (λ k inside. (omega (arith, inside.0), omega (arith, inside.1)))) c.write.ensures.wrote (omega arith, omega arith)).others
 
 pub returns-clause-confined : goal.returns-clause-confined
-returns-clause-confined g c = confined_writes c.write.ensures.wrote (confined_widens {T = InManifest} c.fill_area.ensures.confined (λ k inside. (omega (arith, inside.0), omega (arith, inside.1)))) (omega arith, omega arith)
+returns-clause-confined g c = (touches-writes (touches-widens {inside = InManifest} c.fill_area.ensures.touches (λ k inside. (omega (arith, inside.0), omega (arith, inside.1)))) c.write.ensures.wrote (omega arith, omega arith)).confined
+
+pub returns-clause-others : goal.returns-clause-others
+returns-clause-others g c = (touches-writes (touches-widens {inside = InManifest} c.fill_area.ensures.touches (λ k inside. (omega (arith, inside.0), omega (arith, inside.1)))) c.write.ensures.wrote (omega arith, omega arith)).others
 
 pub returns-clause-named : goal.returns-clause-named
 returns-clause-named g c = λ image told.
@@ -30,28 +36,16 @@ returns-clause-named g c = λ image told.
     fresh-named (g.D.Device.blocks c.fill_area.new.device) (g.D.Device.state c.fill_area.new.device) (g.D.Device.state c.write.new.self) _ c.deref.result.now c.write.ensures.wrote c.in_ok-write.ensures.ok c.fill_selector.ensures (roomy-below c.args.geometry.now (g.D.Device.blocks c.args.device.now) (g.D.Device.blocks c.fill_area.new.device) c.args.extents c.requires.stands c.fill_area.ensures.calls.size) c.in_ok-fill_area.ensures.written image told
     c.args.geometry.now c.args.extents c.requires.valid stands (c.deref.ensures.value ∙ c.spell.ensures)
 
-pub returns-clause-gates : goal.returns-clause-gates
-returns-clause-gates g c = λ image told. area-closed 0 _ image (fresh-written (g.D.Device.blocks c.fill_area.new.device) (g.D.Device.state c.fill_area.new.device) (g.D.Device.state c.write.new.self) _ c.deref.result.now c.write.ensures.wrote c.in_ok-write.ensures.ok c.fill_selector.ensures (roomy-below c.args.geometry.now (g.D.Device.blocks c.args.device.now) (g.D.Device.blocks c.fill_area.new.device) c.args.extents c.requires.stands c.fill_area.ensures.calls.size) c.in_ok-fill_area.ensures.written image told).written
-
 pub returns-clause-written : goal.returns-clause-written
 returns-clause-written g c = λ image told.
     subst (λ (bytes : List ℕ). HasSelected 0 bytes image) (c.deref.ensures.value ∙ c.spell.ensures)
     (fresh-written (g.D.Device.blocks c.fill_area.new.device) (g.D.Device.state c.fill_area.new.device) (g.D.Device.state c.write.new.self) _ c.deref.result.now c.write.ensures.wrote c.in_ok-write.ensures.ok c.fill_selector.ensures (roomy-below c.args.geometry.now (g.D.Device.blocks c.args.device.now) (g.D.Device.blocks c.fill_area.new.device) c.args.extents c.requires.stands c.fill_area.ensures.calls.size) c.in_ok-fill_area.ensures.written image told)
 
-pub returns-in_err-fill_area-clause-area_confined : goal.returns-in_err-fill_area-clause-area_confined
-returns-in_err-fill_area-clause-area_confined g c = confined_widens c.fill_area.ensures.confined (λ k inside. inr inside)
+pub returns-in_err-fill_area-clause-touches : goal.returns-in_err-fill_area-clause-touches
+returns-in_err-fill_area-clause-touches g c = touches-widens c.fill_area.ensures.touches (λ k inside. inr inside)
 
-pub returns-in_err-write-clause-area_confined : goal.returns-in_err-write-clause-area_confined
-returns-in_err-write-clause-area_confined g c = confined_writes c.write.ensures.wrote (confined_widens {T = InSelected 0} c.fill_area.ensures.confined (λ k inside. inr inside)) (inl refl)
+pub returns-in_err-write-clause-touches : goal.returns-in_err-write-clause-touches
+returns-in_err-write-clause-touches g c = touches-writes (touches-widens {inside = InSelected 0} c.fill_area.ensures.touches (λ k inside. inr inside)) c.write.ensures.wrote (inl refl)
 
-pub returns-clause-area_confined : goal.returns-clause-area_confined
-returns-clause-area_confined g c = confined_writes c.write.ensures.wrote (confined_widens {T = InSelected 0} c.fill_area.ensures.confined (λ k inside. inr inside)) (inl refl)
-
-pub returns-in_err-fill_area-clause-area_others : goal.returns-in_err-fill_area-clause-area_others
-returns-in_err-fill_area-clause-area_others g c = shows-widens (InArea 0) (InSelected 0) _ _ (λ k inside. inr inside) c.fill_area.ensures.others
-
-pub returns-in_err-write-clause-area_others : goal.returns-in_err-write-clause-area_others
-returns-in_err-write-clause-area_others g c = shows-writes (InSelected 0) _ _ _ _ _ c.write.ensures.wrote (inl refl) (shows-widens (InArea 0) (InSelected 0) _ _ (λ k inside. inr inside) c.fill_area.ensures.others)
-
-pub returns-clause-area_others : goal.returns-clause-area_others
-returns-clause-area_others g c = shows-writes (InSelected 0) _ _ _ _ _ c.write.ensures.wrote (inl refl) (shows-widens (InArea 0) (InSelected 0) _ _ (λ k inside. inr inside) c.fill_area.ensures.others)
+pub returns-clause-touches : goal.returns-clause-touches
+returns-clause-touches g c = touches-writes (touches-widens {inside = InSelected 0} c.fill_area.ensures.touches (λ k inside. inr inside)) c.write.ensures.wrote (inl refl)

@@ -2,7 +2,7 @@ use Rattle.std.proofs.Common.{◌≡◌, ◌∙◌, sym, ap, Some, arith}
 use Rattle.lt_terms.specs.Bytes.{same_bytes}
 use Rattle.lt_terms.specs.Items.{Item}
 use Rattle.lt_item.specs.Views.{item_of}
-use Rattle.lt_tables.specs.Merge.{newest_of}
+use Rattle.lt_tables.specs.Table.{newest_of}
 use Rattle.lt_mem.specs.Inside.{items_inside}
 use Rattle.lt_mem.proofs.IndexLaws.{index-count}
 use Rattle.lt_mem.proofs.Walk.{has_place, head_begins, found, goes_on, same_item, no_item, numbered}

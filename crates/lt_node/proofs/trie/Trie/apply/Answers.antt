@@ -1,8 +1,7 @@
-use Rattle.lt_node.specs.Changing.{change_of}
+use Rattle.lt_node.specs.Changing.{change_of, with_entry}
 use Rattle.std.proofs.Common.{◌∙◌, ap, sym, ◌≤◌, subst}
 use Rattle.std.specs.List.{fold}
 use Rattle.lt_format.specs.Trie.{table_total}
-use Rattle.lt_node.specs.Changing.{with_entry}
 use Rattle.lt_node.proofs.ApplyLaws.{applied}
 use Rattle.lt_node.proofs.trie.Trie.apply.Goals as goal
 

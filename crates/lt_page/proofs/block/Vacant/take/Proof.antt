@@ -8,6 +8,7 @@ use base.Fraction.{full_share}
 use base.Logic.{SProp, ent, sep, emp, via, wand, fst∗, id⊢, apply∗}
 use base.Fml.{Fml, Lft, Share, ftrue, flft, fat, Incl-trans}
 use mir.Syntax.{Fn, Body}
+use mir.Syntax.{ty_struct}
 use mir.MapTy.{inst_fn}
 use mir.Val.{Val, vcons, vnil}
 use prog.Memory.{Memory, size, align, capped}
@@ -47,7 +48,6 @@ use Rattle.core.proofs.alloc.Calls.{second, Answer-typed, α, Fits, seen, Lent, 
 use Rattle.std_alloc.proofs.ResultValues.{ok_of, err_of}
 use Rattle.lt_page.proofs.BlockForm.{Types, args, From, τ, τ_bare, Vacant, Taken, vacant_owning, field_types, word, vacant_typed, ok_typed, err_typed}
 use Rattle.lt_page.proofs.BlockSteps.{vacant_in}
-use mir.Syntax.{ty_struct}
 use Rattle.lt_page.specs.contracts.block.Vacant.take as f
 use Rattle.lt_page.specs.contracts.block.Vacant.take.Key.{name}
 use Rattle.lt_page.proofs.block.Vacant.take.Statement.{statement}

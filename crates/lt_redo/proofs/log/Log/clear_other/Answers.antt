@@ -1,17 +1,36 @@
-use Rattle.std.proofs.Common.{subst}
-use Rattle.lt_device.proofs.Runs.{begins, confined_keeps}
-use Rattle.lt_redo.specs.LogState.{LogState}
-use Rattle.lt_redo.proofs.AreaLaws.{has_log-other, Kept}
+use Rattle.std.proofs.Common.{ℕ, ◌-◌, [], subst}
+use Rattle.lt_terms.specs.Bytes.{Image}
+use Rattle.lt_device.specs.Moments.{ConfinedTo, MayLeave}
+use Rattle.lt_device.proofs.Rest.{unsynced_none}
+use Rattle.lt_device.proofs.Runs.{syncs}
+use Rattle.lt_redo.specs.LogState.{LogState, other_area}
+use Rattle.lt_redo.specs.Slots.{HasLog, HasZeroGates, InLogArea}
+use Rattle.lt_redo.proofs.ClearLaws.{zeros_sure, zeros_cleared, has_log-cleared}
 use Rattle.lt_redo.proofs.log.Log.clear_other.Goals as goal
 
-pub returns-in_err-clear_area-clause-kept : goal.returns-in_err-clear_area-clause-kept
-returns-in_err-clear_area-clause-kept g c =
-    let i = c.self.inside in
-    subst (λ (s : LogState). Kept s (g.D.Device.state c.args.device.now) (g.D.Device.state c.clear_area.new.device)) c.self.view_is
-    (λ groups rests. confined_keeps c.clear_area.ensures.confined (begins _ rests) (λ image left same has. has_log-other i.geometry i.area i.writes groups image left c.self.invariant.area_is same has))
+pub returns-in_err-close_gates-clause-confined : goal.returns-in_err-close_gates-clause-confined
+returns-in_err-close_gates-clause-confined g c =
+    subst (λ (s : LogState). ConfinedTo (InLogArea s.geometry (other_area s.area)) (g.D.Device.state c.args.device.now) (g.D.Device.state c.close_gates.new.device)) c.self.view_is c.close_gates.ensures.confined
 
-pub returns-clause-kept : goal.returns-clause-kept
-returns-clause-kept g c =
+pub returns-in_err-sync-clause-confined : goal.returns-in_err-sync-clause-confined
+returns-in_err-sync-clause-confined g c =
+    subst (λ (s : LogState). ConfinedTo (InLogArea s.geometry (other_area s.area)) (g.D.Device.state c.args.device.now) (g.D.Device.state c.sync.new.self)) c.self.view_is (syncs c.sync.ensures.ended c.close_gates.ensures.confined)
+
+pub returns-clause-confined : goal.returns-clause-confined
+returns-clause-confined g c =
+    subst (λ (s : LogState). ConfinedTo (InLogArea s.geometry (other_area s.area)) (g.D.Device.state c.args.device.now) (g.D.Device.state c.sync.new.self)) c.self.view_is (syncs c.sync.ensures.ended c.close_gates.ensures.confined)
+
+pub returns-clause-zeros : goal.returns-clause-zeros
+returns-clause-zeros g c =
     let i = c.self.inside in
-    subst (λ (s : LogState). Kept s (g.D.Device.state c.args.device.now) (g.D.Device.state c.clear_area.new.device)) c.self.view_is
-    (λ groups rests. confined_keeps c.clear_area.ensures.confined (begins _ rests) (λ image left same has. has_log-other i.geometry i.area i.writes groups image left c.self.invariant.area_is same has))
+    subst (λ (s : LogState). (left : Image) → MayLeave (g.D.Device.state c.sync.new.self) left → HasZeroGates s.geometry (other_area s.area) left) c.self.view_is
+    (zeros_sure i.geometry (1 - i.area) _ _ _ c.sync.ensures.ended.fit c.in_ok-sync.ensures.ok c.in_ok-close_gates.ensures.zeros)
+
+pub returns-clause-empty : goal.returns-clause-empty
+returns-clause-empty g c =
+    let i = c.self.inside in
+    subst (λ (s : LogState). (writes : ℕ) (left : Image) → MayLeave (g.D.Device.state c.sync.new.self) left → HasLog s.geometry (other_area s.area) writes [] left) c.self.view_is
+    (λ writes left may. has_log-cleared i.geometry (1 - i.area) writes left (zeros_cleared i.geometry (1 - i.area) left (zeros_sure i.geometry (1 - i.area) _ _ _ c.sync.ensures.ended.fit c.in_ok-sync.ensures.ok c.in_ok-close_gates.ensures.zeros left may)))
+
+pub returns-clause-sure : goal.returns-clause-sure
+returns-clause-sure g c = unsynced_none _ c.in_ok-sync.ensures.ok

@@ -6,15 +6,15 @@ use Rattle.lt_store.specs.declared.counts.Stat.{Stat}
 use Rattle.lt_store.specs.declared.acting.Outcome.TheVariants as outcomes
 use Rattle.lt_terms.specs.Items.{put_of, delete_of}
 use Rattle.lt_store.specs.Acting.{command_of}
+use Rattle.lt_store.specs.Counts.{TellsImages}
+use Rattle.lt_language.specs.Commands as commands
 use Rattle.lt_device.specs.State as told
-use Rattle.lt_image.specs.Counts.{HasCounts}
 use Rattle.lt_store.specs.Promise.{StopsGet}
 use Rattle.lt_store.specs.Getting.{AnswersSeen, seen_of}
 use Rattle.lt_store.specs.Open.{StoreView, state_of}
 use Rattle.lt_store.specs.View.{view_of}
-use Rattle.lt_store.proofs.ActLaws.{asks-goes, asks-rooted, event-rooted, event-writes, none-rooted, stat-step, put-step, delete-step, refused-goes, same-err, same-key, same-ok, same-stat, tells-fault, tells-none, tells-value, limits}
+use Rattle.lt_store.proofs.ActLaws.{asks-goes, asks-rooted, event-rooted, event-writes, none-rooted, stat-step, put-step, delete-step, refused-goes, same-err, same-key, same-ok, same-stat, tells-fault, tells-none, tells-value, limits, write-kind}
 use Rattle.lt_store.proofs.AnswerLaws.{all-writes}
-use Rattle.lt_store.proofs.FullLaws.{image-counts}
 use Rattle.lt_store.proofs.GoLaws.{goes-none}
 use Rattle.lt_store.proofs.RootedLaws.{rooted-none}
 use Rattle.lt_store.proofs.WholeLaws.{whole-asked, whole-none, whole-survives}
@@ -40,6 +40,9 @@ returns-in_ok-put-in-Put-clause-step g c = λ durable opened.
     (put-step s.manifest.manifest.header.extents s.writes (state_of (view_of s) durable) answer.field-0 number (limits answer.field-0 _ answer.ensures.limit)
     (λ needed free is. ((answer.ensures.full needed free (ap Ok is)).short, (answer.ensures.writes.full_images needed free (ap Ok is) durable opened).1)) c.in-Put.key.now c.in-Put.value.now c.args.out.now)
 
+pub returns-in_ok-put-in-Put-clause-kind : goal.returns-in_ok-put-in-Put-clause-kind
+returns-in_ok-put-in-Put-clause-kind g c = rw c.in-Put.is (write-kind (commands.put c.in-Put.key.now c.in-Put.value.now) c.in_ok-put-in-Put.field-0 c.args.out.now (λ reply is. is))
+
 -- ---- a delete
 
 pub returns-in_err-delete-in-Delete-clause-goes_on : goal.returns-in_err-delete-in-Delete-clause-goes_on
@@ -58,6 +61,9 @@ returns-in_ok-delete-in-Delete-clause-step g c = λ durable opened.
     rw c.in-Delete.is
     (delete-step s.manifest.manifest.header.extents s.writes (state_of (view_of s) durable) answer.field-0 number (limits answer.field-0 _ answer.ensures.limit)
     (λ needed free is. ((answer.ensures.full needed free (ap Ok is)).short, (answer.ensures.writes.full_images needed free (ap Ok is) durable opened).1)) c.in-Delete.key.now c.args.out.now)
+
+pub returns-in_ok-delete-in-Delete-clause-kind : goal.returns-in_ok-delete-in-Delete-clause-kind
+returns-in_ok-delete-in-Delete-clause-kind g c = rw c.in-Delete.is (write-kind (commands.delete c.in-Delete.key.now) c.in_ok-delete-in-Delete.field-0 c.args.out.now (λ reply is. is))
 
 -- ---- a get
 
@@ -126,11 +132,7 @@ pub returns-in-Stat-clause-whole : goal.returns-in-Stat-clause-whole
 returns-in-Stat-clause-whole g c = λ durable opened. whole-none (view_of c.args.self.now) durable (g.D.Device.state c.args.device.now) opened
 
 pub returns-in-Stat-clause-stat_images : goal.returns-in-Stat-clause-stat_images
-returns-in-Stat-clause-stat_images g c = λ s is durable opened left may.
-    let me = c.args.self.now in
-    let same : c.stat.result ≡ s = same-stat c.stat.result s is in
-    let counts = image-counts (view_of me) durable (g.D.Device.state c.args.device.now) (vec_len me.filters) opened (me.kept c.requires.up) left may in
-    subst (λ (t : Stat). HasCounts left t.tables t.free) (sym c.stat.ensures.stat ∙ same) counts
+returns-in-Stat-clause-stat_images g c = λ s is. subst (λ (t : Stat). TellsImages g.D.Device (view_of c.args.self.now) t c.args.device.now) (same-stat c.stat.result s is) c.stat.ensures.told
 
 pub returns-in_err-len-in-Get-clause-damaged : goal.returns-in_err-len-in-Get-clause-damaged
 returns-in_err-len-in-Get-clause-damaged g c = λ b is.
@@ -196,3 +198,11 @@ returns-in-None-clause-while_rooted g c =
 pub returns-in-Stat-clause-while_rooted : goal.returns-in-Stat-clause-while_rooted
 returns-in-Stat-clause-while_rooted g c =
     rw c.in-Stat.is (none-rooted g.D.Device (view_of c.args.self.now) (view_of c.args.self.now) (Ok (outcomes.Stat c.stat.result)) c.args.device.now c.args.device.now (search rules) (λ durable opened. rooted-none (view_of c.args.self.now) durable (g.D.Device.state c.args.device.now) opened))
+
+pub returns-in_err-commit-in-Commit-clause-while_rooted : goal.returns-in_err-commit-in-Commit-clause-while_rooted
+returns-in_err-commit-in-Commit-clause-while_rooted g c =
+    rw c.in-Commit.is (none-rooted g.D.Device (view_of c.args.self.now) (view_of c.commit.new.self) c.from_residual-in_err-commit-in-Commit.result c.args.device.now c.commit.new.device (search rules) c.commit.ensures.rooted)
+
+pub returns-in_ok-commit-in-Commit-clause-while_rooted : goal.returns-in_ok-commit-in-Commit-clause-while_rooted
+returns-in_ok-commit-in-Commit-clause-while_rooted g c =
+    rw c.in-Commit.is (none-rooted g.D.Device (view_of c.args.self.now) (view_of c.commit.new.self) (Ok outcomes.Committed) c.args.device.now c.commit.new.device (search rules) c.commit.ensures.rooted)

@@ -1,21 +1,21 @@
-use Rattle.std.proofs.Common.{rules, ◌≡◌, ◌<◌, ◌≤◌, refl, ap, sym, subst, ◌∙◌, [], length, true, false, arith, vec_len}
+use Rattle.std.proofs.Common.{rules, Some, Ok, ◌≡◌, ◌<◌, ◌≤◌, refl, ap, sym, subst, ◌∙◌, [], length, true, false, arith, vec_len}
 use Rattle.lt_image.proofs.CountLaws.{newest-few}
 use Rattle.lt_tables.proofs.NewestLaws.{newest-newest}
-use Rattle.lt_tables.specs.Merge.{newest}
+use Rattle.lt_tables.specs.Table.{newest}
 use Rattle.std.specs.Prelude.{◌||◌}
 use Rattle.lt_alloc.specs.Extents.{Reserves, is_free}
 use Rattle.lt_format.specs.Trie.{all_distinct}
 use Rattle.lt_format.specs.declared.header.Header.{Header}
 use Rattle.lt_format.specs.Changes.{flush}
-use Rattle.lt_format.specs.Naming.{after_commit}
-use Rattle.lt_terms.specs.Numbers.{is_in}
+use Rattle.lt_format.specs.Snapshot.{after_commit, Manifest}
+use Rattle.lt_terms.specs.Bytes.{is_in}
 use Rattle.lt_store.specs.Flushing.{AreFree, flush_header, flushed_log}
 use Rattle.lt_store.specs.Open.{StoreView}
 use Rattle.lt_store.specs.View.{view_of}
 use Rattle.lt_store.proofs.MomentLaws.{open-alike}
 use Rattle.lt_store.proofs.NewestLaws.{newest-some}
 use Rattle.lt_store.proofs.ReserveLaws.{reserved-len, reserved-free, reserved-distinct, reserved-below, flushed-kept, back-kept, kept-along, memory-few}
-use Rattle.lt_store.proofs.RootedLaws.{rooted-none}
+use Rattle.lt_store.proofs.LiveLaws.{unflushed}
 use Rattle.lt_store.proofs.store.Store.flush.Goals as goal
 
 pub tables_of-requires-clause-ranked : goal.tables_of-requires-clause-ranked
@@ -40,8 +40,8 @@ overflow_cast-len g c =
     let size = c.in_ok-tables.tables.ok.0 in
     omega (arith, is, few, memory, fewer, len, size)
 
-pub flush_into-requires-clause-some : goal.flush_into-requires-clause-some
-flush_into-requires-clause-some g c =
+pub flush_into-requires-clause-reserved : goal.flush_into-requires-clause-reserved
+flush_into-requires-clause-reserved g c =
     let me = c.args.self.now in
     let kept = me.kept c.requires.up in
     let r = subst (λ xs. Reserves c.len-2.result me.extents c.take.new.self xs c.take.new.into.items) c.in_ok-numbers.ensures.items c.in_default-take.ensures.ok in
@@ -52,21 +52,15 @@ flush_into-requires-clause-some g c =
     let same : length c.deref-3.result.now ≡ length c.take.new.into.items = ap length c.deref-3.ensures.value in
     let len = c.len-2.ensures in
     let size = c.in_ok-tables.tables.ok.0 in
-    omega (arith, count, tables, same, len, size)
-
-pub flush_into-requires-clause-distinct : goal.flush_into-requires-clause-distinct
-flush_into-requires-clause-distinct g c =
-    let me = c.args.self.now in
-    let kept = me.kept c.requires.up in
-    let r = subst (λ xs. Reserves c.len-2.result me.extents c.take.new.self xs c.take.new.into.items) c.in_ok-numbers.ensures.items c.in_default-take.ensures.ok in
-    subst (λ xs. all_distinct xs ≡ true) (sym c.deref-3.ensures.value) (reserved-distinct me.manifest me.log me.memory me.extents c.take.new.self _ _ c.len-2.result c.take.new.into.items kept r)
-
-pub flush_into-requires-clause-free : goal.flush_into-requires-clause-free
-flush_into-requires-clause-free g c =
-    let me = c.args.self.now in
-    let kept = me.kept c.requires.up in
-    let r = subst (λ xs. Reserves c.len-2.result me.extents c.take.new.self xs c.take.new.into.items) c.in_ok-numbers.ensures.items c.in_default-take.ensures.ok in
-    subst (AreFree me.manifest) (sym c.deref-3.ensures.value) (reserved-free me.manifest me.log me.memory me.extents c.take.new.self _ _ c.len-2.result c.take.new.into.items kept r)
+    let old_ok = me.filters.ok.0 in
+    let old_len : length me.filters.items ≡ vec_len me.filters = omega (arith, old_ok) in
+    record {
+      kept = record { taken = me.extents; kept = kept-along me.manifest me.log me.log me.memory me.memory me.extents me.extents _ (length me.filters.items) me.writes me.writes refl refl refl old_len refl kept };
+      idle = c.requires.idle;
+      some = omega (arith, count, tables, same, len, size);
+      distinct = subst (λ xs. all_distinct xs ≡ true) (sym c.deref-3.ensures.value) (reserved-distinct me.manifest me.log me.memory me.extents c.take.new.self _ _ c.len-2.result c.take.new.into.items kept r);
+      free = subst (AreFree me.manifest) (sym c.deref-3.ensures.value) (reserved-free me.manifest me.log me.memory me.extents c.take.new.self _ _ c.len-2.result c.take.new.into.items kept r);
+    }
 
 pub give_back-requires-clause-distinct : goal.give_back-requires-clause-distinct
 give_back-requires-clause-distinct g c =
@@ -81,24 +75,8 @@ give_back-requires-clause-below g c = λ x there.
     let kept = me.kept c.requires.up in
     let r = subst (λ xs. Reserves c.len-2.result me.extents c.take.new.self xs c.take.new.into.items) c.in_ok-numbers.ensures.items c.in_default-take.ensures.ok in
     let below = reserved-below me.manifest me.log me.memory me.extents c.take.new.self _ _ c.len-2.result c.take.new.into.items kept r x (subst (λ xs. is_in x xs ≡ true) c.deref-in-Err-NoMemory.ensures.value there) in
-    let same : length c.flush_into.new.self.extents ≡ length c.take.new.self = ap length c.flush_into.ensures.stays_down.same_extents in
+    let same : length c.flush_into.new.self.extents ≡ length c.take.new.self = ap length c.flush_into.ensures.installs.stays_down.same_extents in
     omega (arith, below, same)
-
-pub returns-in-Ok-clause-stays : goal.returns-in-Ok-clause-stays
-returns-in-Ok-clause-stays g c = λ d o. c.in-Ok.ensures.stays d (open-alike (view_of c.args.self.now) d (g.D.Device.state c.args.device.now) false c.take.new.self o)
-
-pub returns-in-Ok-clause-opened : goal.returns-in-Ok-clause-opened
-returns-in-Ok-clause-opened g c = λ ok d o.
-    open-alike (view_of c.flush_into.new.self) d (g.D.Device.state c.flush_into.new.device) true c.flush_into.new.self.extents
-    (c.in-Ok.ensures.opened d (open-alike (view_of c.args.self.now) d (g.D.Device.state c.args.device.now) false c.take.new.self o))
-
-pub returns-in-Err-NoMemory-clause-stays : goal.returns-in-Err-NoMemory-clause-stays
-returns-in-Err-NoMemory-clause-stays g c = λ d o. c.flush_into.ensures.stays d (open-alike (view_of c.args.self.now) d (g.D.Device.state c.args.device.now) false c.take.new.self o)
-
-pub returns-in-Err-NoMemory-clause-opened : goal.returns-in-Err-NoMemory-clause-opened
-returns-in-Err-NoMemory-clause-opened g c = λ none d o.
-    open-alike (view_of c.flush_into.new.self) d (g.D.Device.state c.flush_into.new.device) true c.give_back.new.extents
-    (c.in-Err-NoMemory.ensures.opened_again (search rules) d (open-alike (view_of c.args.self.now) d (g.D.Device.state c.args.device.now) false c.take.new.self o))
 
 pub returns-in-Err-NoMemory-clause-idle : goal.returns-in-Err-NoMemory-clause-idle
 returns-in-Err-NoMemory-clause-idle g c = λ none. c.in-Err-NoMemory.ensures.idle (search rules)
@@ -117,16 +95,16 @@ invariant_of-self-in-Ok g c =
     let len = c.len-2.ensures in
     let size = c.in_ok-tables.tables.ok.0 in
     let some : 1 ≤ length c.take.new.into.items = omega (arith, count, tables, len, size) in
-    let filled : length new.filters.items ≡ length me.filters.items = c.in-Ok.ensures.stays_down.room in
+    let filled : length new.filters.items ≡ length me.filters.items = c.in-Ok.ensures.installs.stays_down.room in
     let new_len = new.filters.ok.0 in
     let old_len = me.filters.ok.0 in
     let header : Header = flush_header v in
-    let flushed_is = c.in-Ok.ensures.committed.is in
-    let manifest = c.in-Ok.ensures.committed.manifest ∙ ap (λ xs. after_commit me.manifest.manifest (flush xs) header) c.deref-3.ensures.value in
-    let k = flushed-kept me.manifest new.manifest me.log me.memory me.extents c.take.new.self _ _ c.len-2.result c.take.new.into.items header kept r some c.in-Ok.ensures.committed.stands c.in-Ok.ensures.stays_down.geometry manifest refl refl refl in
+    let flushed_is = c.in-Ok.ensures.installs.committed.is in
+    let manifest = c.in-Ok.ensures.installs.committed.manifest ∙ ap (λ xs. after_commit me.manifest.manifest (flush xs) header) c.deref-3.ensures.value in
+    let k = flushed-kept me.manifest new.manifest me.log me.memory me.extents c.take.new.self _ _ c.len-2.result c.take.new.into.items header kept r some c.in-Ok.ensures.installs.committed.stands c.in-Ok.ensures.installs.stays_down.geometry manifest refl refl refl in
     record {
-      kept = λ up. kept-along new.manifest (flushed_log me.log header) new.log [] new.memory c.take.new.self new.extents _ _ _ _ (ap (λ (w : StoreView). w.log) flushed_is) (ap (λ (w : StoreView). w.memory) flushed_is) c.in-Ok.ensures.stays_down.same_extents (omega (arith, filled, new_len, old_len)) c.in-Ok.ensures.stays_down.same_writes k;
-      refused_is = λ up short is. absurd (c.in_default.not-Some short (sym c.flush_into.ensures.refused ∙ is));
+      kept = λ up. kept-along new.manifest (flushed_log me.log header) new.log [] new.memory c.take.new.self new.extents _ _ _ _ (ap (λ (w : StoreView). w.log) flushed_is) (ap (λ (w : StoreView). w.memory) flushed_is) c.in-Ok.ensures.installs.stays_down.same_extents (omega (arith, filled, new_len, old_len)) c.in-Ok.ensures.installs.stays_down.same_writes k;
+      refused_is = λ up short is. absurd (c.in_default.not-Some short (sym c.flush_into.ensures.installs.refused ∙ is));
     }
 
 pub invariant_of-self-in-Err-NoMemory : goal.invariant_of-self-in-Err-NoMemory
@@ -142,50 +120,98 @@ invariant_of-self-in-Err-NoMemory g c =
     let before = kept-along me.manifest me.log me.log me.memory me.memory me.extents me.extents _ (length me.filters.items) me.writes me.writes refl refl refl old_len refl kept in
     let k' = c.in-Err-NoMemory.ensures.kept (search rules) me.extents before in
     let numbers : c.deref-in-Err-NoMemory.result.now ≡ c.take.new.into.items = c.deref-in-Err-NoMemory.ensures.value in
-    let taken : new.extents ≡ c.take.new.self = c.in-Err-NoMemory.ensures.stays_down.same_extents in
+    let taken : new.extents ≡ c.take.new.self = c.in-Err-NoMemory.ensures.installs.stays_down.same_extents in
     let size : length c.give_back.new.extents ≡ length c.take.new.self = c.give_back.ensures.extents ∙ ap length taken in
     record {
       kept = λ up. kept-along new.manifest new.log new.log new.memory new.memory c.give_back.new.extents c.give_back.new.extents (length new.filters.items) _ new.writes new.writes refl refl refl (sym new_len) refl
           (back-kept me.manifest new.manifest me.log new.log me.memory new.memory me.extents c.take.new.self c.give_back.new.extents _ (length new.filters.items) me.writes new.writes c.len-2.result c.take.new.into.items kept k' r size
           (λ x small. subst (λ ns. is_free c.give_back.new.extents x ≡ (is_free c.take.new.self x || is_in x ns)) numbers (subst (λ e. is_free c.give_back.new.extents x ≡ (is_free e x || is_in x c.deref-in-Err-NoMemory.result.now)) taken (c.give_back.ensures.free x (subst (λ e. x < length e) (sym taken) small)))));
-      refused_is = λ up short is. absurd (c.in_default.not-Some short (sym c.flush_into.ensures.refused ∙ is));
+      refused_is = λ up short is. absurd (c.in_default.not-Some short (sym c.flush_into.ensures.installs.refused ∙ is));
     }
-
-pub returns-in-Some-clause-rooted : goal.returns-in-Some-clause-rooted
-returns-in-Some-clause-rooted g c = λ d o. rooted-none (view_of c.args.self.now) d (g.D.Device.state c.args.device.now) o
-
-pub returns-in_err-items-clause-rooted : goal.returns-in_err-items-clause-rooted
-returns-in_err-items-clause-rooted g c = λ d o. rooted-none (view_of c.args.self.now) d (g.D.Device.state c.args.device.now) o
-
-pub returns-in_err-tables-clause-rooted : goal.returns-in_err-tables-clause-rooted
-returns-in_err-tables-clause-rooted g c = λ d o. rooted-none (view_of c.args.self.now) d (g.D.Device.state c.args.device.now) o
-
-pub returns-in_err-numbers-clause-rooted : goal.returns-in_err-numbers-clause-rooted
-returns-in_err-numbers-clause-rooted g c = λ d o. rooted-none (view_of c.args.self.now) d (g.D.Device.state c.args.device.now) o
-
-pub returns-in-Err-clause-rooted : goal.returns-in-Err-clause-rooted
-returns-in-Err-clause-rooted g c = λ d o. rooted-none (view_of c.args.self.now) d (g.D.Device.state c.args.device.now) o
-
-pub returns-in-Ok-clause-rooted : goal.returns-in-Ok-clause-rooted
-returns-in-Ok-clause-rooted g c = λ d o. c.flush_into.ensures.rooted d (open-alike (view_of c.args.self.now) d (g.D.Device.state c.args.device.now) false c.take.new.self o)
-
-pub returns-in-Err-NoMemory-clause-rooted : goal.returns-in-Err-NoMemory-clause-rooted
-returns-in-Err-NoMemory-clause-rooted g c = λ d o. c.flush_into.ensures.rooted d (open-alike (view_of c.args.self.now) d (g.D.Device.state c.args.device.now) false c.take.new.self o)
 
 pub returns-in-Ok-clause-flushed : goal.returns-in-Ok-clause-flushed
 returns-in-Ok-clause-flushed g c = λ is d o.
-    let flushed_is = c.in-Ok.ensures.committed.is in
+    let flushed_is = c.in-Ok.ensures.installs.committed.is in
     record {
       numbers = c.deref-3.result.now;
       tables = c.in-Ok.ensures.tables d (open-alike (view_of c.args.self.now) d (g.D.Device.state c.args.device.now) false c.take.new.self o);
-      manifest = c.in-Ok.ensures.committed.manifest;
+      manifest = c.in-Ok.ensures.installs.committed.manifest;
       log = ap (λ (w : StoreView). w.log) flushed_is;
       memory = ap (λ (w : StoreView). w.memory) flushed_is;
-      writes = c.in-Ok.ensures.stays_down.same_writes;
+      writes = c.in-Ok.ensures.installs.stays_down.same_writes;
     }
 
-pub returns-clause-stays : goal.returns-clause-stays
-returns-clause-stays g c = λ d o. c.flush_into.ensures.stays d (open-alike (view_of c.args.self.now) d (g.D.Device.state c.args.device.now) false c.take.new.self o)
+-- ---- the store lives on
 
-pub returns-clause-rooted : goal.returns-clause-rooted
-returns-clause-rooted g c = λ d o. c.flush_into.ensures.rooted d (open-alike (view_of c.args.self.now) d (g.D.Device.state c.args.device.now) false c.take.new.self o)
+pub returns-in-Some-clause-lives : goal.returns-in-Some-clause-lives
+returns-in-Some-clause-lives g c = unflushed g.D.Device c.args.self.now _ _ c.args.device.now refl c.requires.up (search rules)
+
+pub returns-in_err-items-clause-lives : goal.returns-in_err-items-clause-lives
+returns-in_err-items-clause-lives g c = unflushed g.D.Device c.args.self.now _ _ c.args.device.now refl c.requires.up (search rules)
+
+pub returns-in_err-tables-clause-lives : goal.returns-in_err-tables-clause-lives
+returns-in_err-tables-clause-lives g c = unflushed g.D.Device c.args.self.now _ _ c.args.device.now refl c.requires.up (search rules)
+
+pub returns-in_err-numbers-clause-lives : goal.returns-in_err-numbers-clause-lives
+returns-in_err-numbers-clause-lives g c = unflushed g.D.Device c.args.self.now _ _ c.args.device.now refl c.requires.up (search rules)
+
+pub returns-in-Err-clause-lives : goal.returns-in-Err-clause-lives
+returns-in-Err-clause-lives g c =
+    let none = unflushed g.D.Device c.args.self.now c.args.self.now (Ok (Some c.in-Err.short)) c.args.device.now refl c.requires.up (search rules) in
+    record {
+      stays = none.stays;
+      rooted = none.rooted;
+      opened = λ on d o. open-alike (view_of c.args.self.now) d (g.D.Device.state c.args.device.now) c.args.self.now.is_up c.take.new.self o;
+      up = none.up;
+      writes = refl;
+      regions = λ on. record { geometry = refl; extents = refl };
+      calls = none.calls;
+    }
+
+pub returns-in-Ok-clause-lives : goal.returns-in-Ok-clause-lives
+returns-in-Ok-clause-lives g c =
+    let v : StoreView = view_of c.args.self.now in
+    record {
+      stays = λ d o. c.in-Ok.ensures.stays d (open-alike v d (g.D.Device.state c.args.device.now) false c.take.new.self o);
+      rooted = λ d o. c.flush_into.ensures.installs.rooted d (open-alike v d (g.D.Device.state c.args.device.now) false c.take.new.self o);
+      opened = λ ok d o.
+          open-alike (view_of c.flush_into.new.self) d (g.D.Device.state c.flush_into.new.device) true c.flush_into.new.self.extents
+          (c.in-Ok.ensures.opened d (open-alike v d (g.D.Device.state c.args.device.now) false c.take.new.self o));
+      up = search rules;
+      writes = c.in-Ok.ensures.installs.stays_down.same_writes;
+      regions = λ up. record { geometry = c.in-Ok.ensures.installs.stays_down.geometry; extents = ap (λ (m : Manifest). m.header.extents) c.in-Ok.ensures.installs.committed.manifest };
+      calls = record {
+        size = c.flush_into.ensures.installs.calls.size;
+        count = c.flush_into.ensures.installs.calls.count;
+        later = c.flush_into.ensures.installs.calls.later;
+        cause = λ failed. absurd (let at = failed in cc);
+      };
+    }
+
+pub returns-in-Err-NoMemory-clause-lives : goal.returns-in-Err-NoMemory-clause-lives
+returns-in-Err-NoMemory-clause-lives g c =
+    let v : StoreView = view_of c.args.self.now in
+    record {
+      stays = λ d o. c.flush_into.ensures.stays d (open-alike v d (g.D.Device.state c.args.device.now) false c.take.new.self o);
+      rooted = λ d o. c.flush_into.ensures.installs.rooted d (open-alike v d (g.D.Device.state c.args.device.now) false c.take.new.self o);
+      opened = λ none d o.
+          open-alike (view_of c.flush_into.new.self) d (g.D.Device.state c.flush_into.new.device) true c.give_back.new.extents
+          (c.in-Err-NoMemory.ensures.opened_again (search rules) d (open-alike v d (g.D.Device.state c.args.device.now) false c.take.new.self o));
+      up = search rules;
+      writes = search rules;
+      regions = search rules;
+      calls = search rules;
+    }
+
+pub returns-clause-lives : goal.returns-clause-lives
+returns-clause-lives g c =
+    let v : StoreView = view_of c.args.self.now in
+    record {
+      stays = λ d o. c.flush_into.ensures.stays d (open-alike v d (g.D.Device.state c.args.device.now) false c.take.new.self o);
+      rooted = λ d o. c.flush_into.ensures.installs.rooted d (open-alike v d (g.D.Device.state c.args.device.now) false c.take.new.self o);
+      opened = search rules;
+      up = search rules;
+      writes = search rules;
+      regions = search rules;
+      calls = search rules;
+    }

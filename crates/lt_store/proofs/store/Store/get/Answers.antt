@@ -7,7 +7,8 @@ use Rattle.lt_terms.specs.Items.{Item}
 use Rattle.std.specs.Prelude.{IsErrOf}
 use Rattle.lt_htable.specs.declared.faults.LookFault.TheVariants.{Damaged}
 use Rattle.lt_store.specs.Getting.{AnswersSeen, IsBucketOf, seen_of, value_len}
-use Rattle.lt_store.specs.Open.{StoreView, root_pile}
+use Rattle.lt_store.specs.Open.{StoreView}
+use Rattle.lt_store.specs.Promise.{root_pile}
 use Rattle.lt_store.proofs.StopLaws.{pile-stops}
 use Rattle.lt_store.specs.View.{view_of}
 use Rattle.lt_store.proofs.AnswerLaws.{answer-memory, answer-pile, answer-fault, searched, stopped, counts-none, tables-within}
@@ -47,14 +48,14 @@ returns-clause-answer g c = λ durable opened.
     ]
 
 pub returns-in_err-version-in-None-clause-stops : goal.returns-in_err-version-in-None-clause-stops
-returns-in_err-version-in-None-clause-stops g c = λ durable image j opened told holds.
+returns-in_err-version-in-None-clause-stops g c = λ durable opened image told j holds.
     let s = c.args.self.now in
     let k = s.kept c.requires.up in
     let tables_are = c.pile-tables.ensures ∙ ap (λ (t : Trie). (node_at t root).tables) c.trie.ensures.nodes in
-    stopped (view_of s) durable (g.D.Device.state c.args.device.now) opened (vec_len s.filters) k c.args.key.now c.geometry.result.now c.deref.result.now c.pile-tables.result.now _ _ c.geometry.ensures.geometry c.deref.ensures.value tables_are c.search.ensures.stops image j told holds
+    stopped (view_of s) durable (g.D.Device.state c.args.device.now) opened (vec_len s.filters) k c.args.key.now c.geometry.result.now c.deref.result.now c.pile-tables.result.now _ _ c.geometry.ensures.geometry c.deref.ensures.value tables_are (λ image j told readable. c.search.ensures.stops image told readable j) image j told holds
 
 pub returns-clause-stops : goal.returns-clause-stops
-returns-clause-stops g c = λ durable image j opened told holds.
+returns-clause-stops g c = λ durable opened image told j holds.
     let s = c.args.self.now in
     let k = s.kept c.requires.up in
     elim c.match-find.branch [
@@ -62,7 +63,7 @@ returns-clause-stops g c = λ durable image j opened told holds.
       | in-None+in_ok-version-in-None w ↦
           let tables_are = w.pile-tables.ensures ∙ ap (λ (t : Trie). (node_at t root).tables) w.trie.ensures.nodes in
           rw w.device-is
-          (stopped (view_of s) durable (g.D.Device.state c.args.device.now) opened (vec_len s.filters) k c.args.key.now w.geometry.result.now w.deref.result.now w.pile-tables.result.now _ _ w.geometry.ensures.geometry w.deref.ensures.value tables_are w.search.ensures.stops image j told holds)
+          (stopped (view_of s) durable (g.D.Device.state c.args.device.now) opened (vec_len s.filters) k c.args.key.now w.geometry.result.now w.deref.result.now w.pile-tables.result.now _ _ w.geometry.ensures.geometry w.deref.ensures.value tables_are (λ image j told readable. w.search.ensures.stops image told readable j) image j told holds)
     ]
 
 pub returns-in_err-version-in-None-clause-seen : goal.returns-in_err-version-in-None-clause-seen
@@ -96,5 +97,5 @@ returns-in_err-version-in-None-clause-damaged g c = λ b is.
     let s = c.args.self.now in
     let was : IsErrOf c.search.result (Damaged b) = search rules in
     let tables_are = c.pile-tables.ensures ∙ ap (λ (t : Trie). (node_at t root).tables) c.trie.ensures.nodes in
-    pile-stops s.manifest s.log s.memory s.extents (vec_len s.filters) s.writes (s.kept c.requires.up) _ c.args.key.now b (c.search.ensures.damaged b was)
+    pile-stops s.manifest s.log s.memory s.extents (vec_len s.filters) s.writes (s.kept c.requires.up) _ c.args.key.now b (c.search.ensures.found.damaged b was)
     (subst (λ h. IsBucketOf h (root_pile s.manifest.manifest.trie) b) c.geometry.ensures.geometry (subst (λ xs. IsBucketOf c.geometry.result.now xs b) tables_are (c.search.ensures.damaged_block b was)))

@@ -2,7 +2,7 @@ use Rattle.std.proofs.Common.{rules, refl, ◌+◌, ◌*◌, ◌∙◌, sym, ap,
 use Rattle.std.proofs.lemmas.Result.{err_from_is_err_and}
 use Rattle.lt_device.proofs.CallLaws.{reads_more}
 use Rattle.lt_device.specs.State as told
-use Rattle.lt_format.specs.Naming.{Named}
+use Rattle.lt_format.specs.Snapshot.{Named}
 use Rattle.lt_redo.proofs.OpeningLaws.{handed_on}
 use Rattle.lt_store.specs.Open.{IsOpen}
 use Rattle.lt_store.specs.View.{view_of}
@@ -75,7 +75,7 @@ returns-clause-reads g c = λ image shown.
     let after_manifest = ap (λ (s : told.State). s.shown) c.read_manifest.ensures.calls.state ∙ shown in
     let after_log = ap (λ (s : told.State). s.shown) c.read_log.ensures.calls.state ∙ after_manifest in
     assembled-reads image c.in_ok-manifest.manifest.geometry c.in_ok-manifest.manifest c.in_ok-log.log c.in_ok-log.items.items c.deref.result.now c.in_ok-filters.filters.items _
-    refl (c.in_ok-manifest.ensures.read image shown) c.in_ok-log.ensures.log (c.in_ok-log.ensures.read image after_manifest) c.deref.ensures.value (c.in_ok-filters.ensures.filters image after_log) c.in_ok-of.ensures
+    refl (c.in_ok-manifest.ensures.read image shown) c.in_ok-log.ensures.log.is (c.in_ok-log.ensures.read image after_manifest) c.deref.ensures.value (c.in_ok-filters.ensures.filters image after_log) c.in_ok-of.ensures
 
 pub returns-clause-opened : goal.returns-clause-opened
 returns-clause-opened g c = λ s r.

@@ -1,6 +1,19 @@
-use Rattle.std.proofs.Common.{vec_len}
+use Rattle.std.proofs.Common.{arith, vec_len}
+use Rattle.lt_store.specs.View.{view_of}
 use Rattle.lt_store.proofs.CountLaws.{tables-free}
+use Rattle.lt_store.proofs.FullLaws.{image-counts}
 use Rattle.lt_store.proofs.store.Store.stat.Goals as goal
+
+pub returns-clause-told : goal.returns-clause-told
+returns-clause-told g c =
+    let s = c.args.self.now in
+    let kept = s.kept c.requires in
+    record {
+      few = omega (arith, kept.room, kept.least);
+      images = λ durable opened left may.
+          rw (c.tables.ensures.count, c.trie.ensures.nodes, c.free.ensures)
+          (image-counts (view_of s) durable (g.D.Device.state c.args.device.now) (vec_len s.filters) opened kept left may);
+    }
 
 pub returns-clause-within : goal.returns-clause-within
 returns-clause-within g c =

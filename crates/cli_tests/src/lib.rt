@@ -1,0 +1,5 @@
+//! What the top call does over devices in memory. The crate has tests alone.
+#![tactic(auto)]
+
+#[cfg(test)]
+mod tests;

@@ -1,0 +1,31 @@
+use Rattle.std.proofs.Common.{◌≡◌, ℕ, ◌∙◌, Option, ap, subst, arith}
+use Rattle.lt_terms.specs.Bytes.{Image}
+use Rattle.lt_container.specs.Columns.{InColumns}
+use Rattle.lt_device.specs.Moments.{ConfinedTo, ShowsSameOutside}
+use Rattle.lt_device.specs.State.{State}
+use Rattle.lt_device.proofs.Runs.{confined_widens}
+use Rattle.lt_htable.specs.Building.{InExtent}
+use Rattle.lt_compact.proofs.SpreadLaws.{group-after}
+use Rattle.lt_compact.proofs.filling.fill_group.Goals as goal
+
+wider : (first k : ℕ) → InColumns first k → InExtent first k
+wider first k inside = (inside.0, omega (arith, inside.1))
+
+pub returns-in-Ok-clause-grouped : goal.returns-in-Ok-clause-grouped
+returns-in-Ok-clause-grouped g c =
+    let shown : (g.D.Device.state c.filters_of.new.device).shown ≡ (g.D.Device.state c.args.device.now).shown = ap (λ (s : State). s.shown) c.filters_of.ensures.calls.state in
+    group-after c.args.geometry.now c.args.first c.args.tables.now c.deref.result.now (g.D.Device.state c.args.device.now).shown (g.D.Device.state c.write_group.new.device).shown
+    (λ image was. c.deref.ensures.value ∙ c.in_ok-pages.ensures.filters image was)
+    c.in-Ok.ensures.grouped
+    (subst (λ (o : Option Image). ShowsSameOutside (InColumns c.args.first) o (g.D.Device.state c.write_group.new.device).shown) shown c.write_group.ensures.others)
+    c.requires.apart
+
+pub returns-in-Ok-clause-confined : goal.returns-in-Ok-clause-confined
+returns-in-Ok-clause-confined g c =
+    subst (λ (s : State). ConfinedTo (InExtent c.args.first) s (g.D.Device.state c.write_group.new.device)) c.filters_of.ensures.calls.state
+    (confined_widens c.write_group.ensures.confined (wider c.args.first))
+
+pub returns-in-Err-Device-clause-confined : goal.returns-in-Err-Device-clause-confined
+returns-in-Err-Device-clause-confined g c =
+    subst (λ (s : State). ConfinedTo (InExtent c.args.first) s (g.D.Device.state c.write_group.new.device)) c.filters_of.ensures.calls.state
+    (confined_widens c.write_group.ensures.confined (wider c.args.first))

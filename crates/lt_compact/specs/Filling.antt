@@ -1,0 +1,20 @@
+-- Where an extent stands among those that shares take.
+use Rattle.std.specs.Prelude.{◌≡◌, ℕ, ◌+◌, ◌<◌, ◌≤◌, List, take, slice_get, Some, IsTrue}
+use Rattle.lt_terms.specs.Bytes.{is_in}
+use Rattle.lt_format.specs.declared.geometry.Geometry.{Geometry}
+use Rattle.lt_format.specs.Layout.{extent_block}
+use Rattle.lt_image.specs.Shares.{Share, share_extents}
+use Rattle.lt_compact.specs.Plans.{extents_for}
+
+-- these extents lie on a device with so many blocks
+pub record AreWithin (g : Geometry) (blocks : ℕ) (numbers : List ℕ) : Type 0 where
+  pub each : (x : ℕ) → IsTrue (is_in x numbers) → extent_block g x + 65 ≤ blocks
+
+-- extent number `filled` is one of share number `share`: the shares before it take `first` extents, and `place` of its
+-- own stand before it
+pub record IsSpot (levels : ℕ) (shares : List Share) (filled share first place : ℕ) : Type 0 where
+  pub here : Share
+  pub there : slice_get shares share ≡ Some here
+  pub before : first ≡ extents_for levels (take share shares)
+  pub is : filled ≡ first + place
+  pub below : place < share_extents levels here

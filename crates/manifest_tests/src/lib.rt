@@ -1,0 +1,5 @@
+//! What the manifest does over devices in memory. The crate has tests alone.
+#![tactic(auto)]
+
+#[cfg(test)]
+mod tests;

@@ -1,0 +1,7 @@
+//! What lines and rounds of them do. The crate has tests alone.
+#![tactic(auto)]
+
+#[cfg(test)]
+mod lines;
+#[cfg(test)]
+mod rounds;
