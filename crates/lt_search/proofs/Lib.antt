@@ -1,0 +1,9 @@
+pub mod FoundLaws
+pub mod LookLaws
+pub mod KeepLaws
+pub mod StopLaws
+pub mod SearchLaws
+pub mod PileLaws
+pub mod GroupLaws
+pub mod PathLaws
+pub mod SoundLaws
