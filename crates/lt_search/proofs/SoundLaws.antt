@@ -1,7 +1,7 @@
 -- A search of a sound image finds the newest version of the key, within the bound of reads.
 use Rattle.std.proofs.Common.{◌≡◌, ℕ, zero, suc, ◌+◌, ◌<◌, refl, sym, ap, subst, ◌∙◌, List, [], ◌∷◌, length, get_or, Bool, true, false, cond, ◌||◌, Option, Some, None, Result, Ok, arith}
 use Rattle.std.specs.Prelude.{IsFalse}
-use Rattle.std.specs.List.{AllByRecursion, filter, flat_map, last_or}
+use Rattle.std.specs.List.{AllByRecursion, filter, last_or}
 use Rattle.std.specs.Option.{is_some, option_map_or, option_or}
 use Rattle.lt_terms.specs.Bytes.{Image, same_bytes}
 use Rattle.lt_terms.specs.Hashes.{home_column}
