@@ -24,6 +24,10 @@ use Rattle.lt_store.specs.Taking.{IsFull, accepted_by}
 use Rattle.lt_store.specs.View.{view_of}
 use Rattle.lt_store.specs.Writing.{WhileRooted, Writes}
 
+-- neither the store nor its device has changed
+abbrev pub Unchanged : {T : Type 0} → Store → Store → T → T → Type 0
+Unchanged s t old new = (view_of t ≡ view_of s) × (new ≡ old)
+
 -- this holds of each state for which the store is open on the device
 abbrev pub WhereOpen : {T : Type 0} → Ghosts T → Store → T → (State → Type 0) → Type 0
 WhereOpen D s device P = (durable : State) → IsOpen (view_of s) durable (D.state device) → P durable

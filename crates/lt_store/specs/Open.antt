@@ -47,9 +47,13 @@ state_of v durable = after_writes durable v.log.pending
 abbrev pub extents_of : StoreView → ℕ
 extents_of v = v.named.manifest.header.extents
 
+-- how many blocks the store of a manifest uses
+abbrev pub blocks_in : Named → ℕ
+blocks_in n = blocks_needed n.geometry n.manifest.header.extents
+
 -- how many blocks the store uses
 abbrev pub blocks_of : StoreView → ℕ
-blocks_of v = blocks_needed v.named.geometry (extents_of v)
+blocks_of v = blocks_in v.named
 
 -- both stores have the same geometry and the same number of extents
 pub record SameRegions (v w : StoreView) : Type 0 where

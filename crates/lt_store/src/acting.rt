@@ -10,7 +10,7 @@ ghost use Rattle.lt_language.specs.Machine.{most_writes};
 ghost use Rattle.lt_store.specs.Acting.{IsStopped, KeepsOut, MayAct, TellsSeen, accepted_as, command_of};
 ghost use Rattle.lt_store.specs.Acting.{most_reads_by, only_asks, reply_of, write_of, IsKind, IsStepOf};
 ghost use Rattle.lt_store.specs.Committing.{committed};
-ghost use Rattle.lt_store.specs.Counts.{stat_of, TellsImages};
+ghost use Rattle.lt_store.specs.Counts.{Tells};
 ghost use Rattle.lt_store.specs.Getting.{KeepsBound, seen_of};
 ghost use Rattle.lt_store.specs.Open.{SameRegions, blocks_of};
 ghost use Rattle.lt_store.specs.Taking.{IsFull};
@@ -97,11 +97,8 @@ impl Store {
 
         ensures idle { command_of event.entry ≡ None → self.old.log.pending ≡ []
             → (result ≡ Ok Outcome.Committed) × (device.new ≡ device.old) }
-        // The numbers of the store and its device at this moment, and those of each image that a crash may leave.
         ensures stat { (s : Stat) → result ≡ Ok (Outcome.Stat s)
-            → s ≡ stat_of (view_of self.old) (D.reads device.old) }
-        ensures stat_images { (s : Stat) → result ≡ Ok (Outcome.Stat s)
-            → TellsImages D.Device (view_of self.old) s device.old }
+            → Tells D.Device (view_of self.old) s device.old }
         ensures page { KeepsOut result out.old out.new }
 
         // Whatever the blocks hold, a get answers what it sees of the key, or the block that spells no bucket.

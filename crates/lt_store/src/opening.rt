@@ -10,12 +10,12 @@ ghost use Rattle.lt_alloc.specs.Extents.{AreTaken};
 ghost use Rattle.lt_device.specs.Calls.{OnlyReads};
 ghost use Rattle.lt_device.specs.Reads.{CountsAtMost};
 ghost use Rattle.lt_language.specs.Machine.{State};
-ghost use Rattle.lt_format.specs.Layout.{is_geometry, blocks_needed};
+ghost use Rattle.lt_format.specs.Layout.{is_geometry};
 ghost use Rattle.lt_format.specs.Snapshot.{manifest_of, IsManifest};
 ghost use Rattle.lt_format.specs.Trie.{named};
 ghost use Rattle.lt_search.specs.Kept.{KeepsExactly};
 ghost use Rattle.lt_store.specs.Promise.{StopsOpening, AtRest, Rests};
-ghost use Rattle.lt_store.specs.Open.{IsOpen, blocks_of, extents_of, inner_of};
+ghost use Rattle.lt_store.specs.Open.{IsOpen, blocks_in, blocks_of, extents_of, inner_of};
 ghost use Rattle.lt_store.specs.Reading.{Reads, IsBelowExtents, Assembles, IsLogOf, HasItemsOf, groups_of};
 ghost use Rattle.lt_store.specs.View.{view_of};
 
@@ -124,8 +124,7 @@ fn read_log<D: Device>(
     device: &mut D,
     manifest: &Manifest,
 ) -> Result<(Log, Vec<Item>), OpenFault>
-    requires room { blocks_needed manifest.now.geometry manifest.now.manifest.header.extents
-        ≤ D.blocks device.old }
+    requires room { blocks_in manifest.now ≤ D.blocks device.old }
     ensures log { IfOk result (λ read. IsLogOf manifest.now read.0 read.1.items) }
     ensures read { IfOk result
         (λ read. ForSome (D.state device.old).shown
@@ -152,8 +151,7 @@ fn inner_filters<D: Device>(
     device: &mut D,
     manifest: &Manifest,
 ) -> Result<InnerFilters, OpenFault>
-    requires room { blocks_needed manifest.now.geometry manifest.now.manifest.header.extents
-        ≤ D.blocks device.old }
+    requires room { blocks_in manifest.now ≤ D.blocks device.old }
     ensures len { IfOk result (λ filters. length filters ≡ manifest.now.manifest.header.extents) }
     ensures filters { IfOk result
         (λ filters. ForSome (D.state device.old).shown

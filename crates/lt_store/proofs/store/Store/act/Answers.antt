@@ -6,7 +6,7 @@ use Rattle.lt_store.specs.declared.counts.Stat.{Stat}
 use Rattle.lt_store.specs.declared.acting.Outcome.TheVariants as outcomes
 use Rattle.lt_terms.specs.Items.{put_of, delete_of}
 use Rattle.lt_store.specs.Acting.{command_of}
-use Rattle.lt_store.specs.Counts.{TellsImages}
+use Rattle.lt_store.specs.Counts.{Tells}
 use Rattle.lt_language.specs.Commands as commands
 use Rattle.lt_device.specs.State as told
 use Rattle.lt_store.specs.Promise.{StopsGet}
@@ -123,7 +123,7 @@ pub returns-in-Stat-clause-step : goal.returns-in-Stat-clause-step
 returns-in-Stat-clause-step g c = λ durable opened.
     let s = c.args.self.now in
     let number = all-writes (view_of s) durable (g.D.Device.state c.args.device.now) opened (length s.filters) (s.kept c.requires.up) [] in
-    rw c.in-Stat.is (stat-step s.manifest.manifest.header.extents (state_of (view_of s) durable) c.stat.result c.args.out.now (ap (λ (t : Stat). t.writes) c.stat.ensures.stat ∙ sym number) c.stat.ensures.within)
+    rw c.in-Stat.is (stat-step s.manifest.manifest.header.extents (state_of (view_of s) durable) c.stat.result c.args.out.now (ap (λ (t : Stat). t.writes) c.stat.ensures.told.is ∙ sym number) c.stat.ensures.within)
 
 pub returns-in-Stat-clause-goes : goal.returns-in-Stat-clause-goes
 returns-in-Stat-clause-goes g c = λ durable opened. goes-none (view_of c.args.self.now) durable _ opened
@@ -140,8 +140,8 @@ returns-in-None-clause-whole g c = λ durable opened. whole-asked (view_of c.arg
 pub returns-in-Stat-clause-whole : goal.returns-in-Stat-clause-whole
 returns-in-Stat-clause-whole g c = λ durable opened. whole-none (view_of c.args.self.now) durable (g.D.Device.state c.args.device.now) opened
 
-pub returns-in-Stat-clause-stat_images : goal.returns-in-Stat-clause-stat_images
-returns-in-Stat-clause-stat_images g c = λ s is. subst (λ (t : Stat). TellsImages g.D.Device (view_of c.args.self.now) t c.args.device.now) (same-stat c.stat.result s is) c.stat.ensures.told
+pub returns-in-Stat-clause-stat : goal.returns-in-Stat-clause-stat
+returns-in-Stat-clause-stat g c = λ s is. subst (λ (t : Stat). Tells g.D.Device (view_of c.args.self.now) t c.args.device.now) (same-stat c.stat.result s is) c.stat.ensures.told
 
 pub returns-in_err-len-in-Get-clause-damaged : goal.returns-in_err-len-in-Get-clause-damaged
 returns-in_err-len-in-Get-clause-damaged g c = λ b is.

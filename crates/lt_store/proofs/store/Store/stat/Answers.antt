@@ -1,4 +1,5 @@
-use Rattle.std.proofs.Common.{arith, length}
+use Rattle.std.proofs.Common.{rules, arith, length}
+use Rattle.std.proofs.lemmas.Grind.{common_steps}
 use Rattle.lt_store.specs.View.{view_of}
 use Rattle.lt_store.proofs.CountLaws.{tables-free}
 use Rattle.lt_store.proofs.FullLaws.{image-counts}
@@ -9,6 +10,7 @@ returns-clause-told g c =
     let s = c.args.self.now in
     let kept = s.kept c.requires in
     record {
+      is = first_of (search rules, grind (arith, common_steps));
       few = omega (arith, kept.room, kept.least);
       images = λ durable opened left may.
           rw (c.tables.ensures.count, c.trie.ensures.nodes, c.free.ensures)
