@@ -6,11 +6,6 @@ use lt_page::{Failed, NoMemory};
 use std::alloc::Global;
 use std::test::Fail;
 
-const ROOT: NodeId = NodeId {
-    level: 0,
-    number: 0,
-};
-
 const CHILD: NodeId = NodeId {
     level: 1,
     number: 3,
@@ -41,7 +36,7 @@ fn deal(
         groups: numbers(alloc, groups)?,
     };
     Ok(Change::Deal {
-        node: ROOT,
+        node: NodeId::ROOT,
         dropped: 1,
         children: Children::of(vec![in alloc; child]?),
     })
@@ -95,7 +90,7 @@ fn flushes_append_to_the_root(rt: HostRuntime) -> Result<(), Fail> {
     let alloc = rt.alloc();
     let mut trie = flushed(alloc, 3)?;
     assert!(rt; make(alloc, &mut trie, flush(alloc, &[9])?)?);
-    assert_eq!(rt; trie.pile(ROOT), [7, 5, 9].as_slice());
+    assert_eq!(rt; trie.pile(NodeId::ROOT), [7, 5, 9].as_slice());
     assert_eq!(rt; trie.tables(), 3);
     assert_eq!(rt; trie.nodes().len(), 1);
     Ok(())
@@ -176,7 +171,7 @@ fn extents_that_are_not_new(rt: HostRuntime) -> Result<(), Fail> {
 fn changes_of_another_shape(rt: HostRuntime) -> Result<(), Fail> {
     let alloc = rt.alloc();
     let mut trie = flushed(alloc, 2)?;
-    assert!(rt; !make(alloc, &mut trie, deal(alloc, ROOT, &[9], 0, &[])?)?);
+    assert!(rt; !make(alloc, &mut trie, deal(alloc, NodeId::ROOT, &[9], 0, &[])?)?);
     assert!(rt; !make(alloc, &mut trie, deal(alloc, CHILD, &[9], 0, &[])?)?);
     assert!(rt; !make(alloc, &mut trie, rewrite(alloc, CHILD, &[9], &[1])?)?);
     Ok(())
