@@ -20,7 +20,7 @@ use Rattle.lt_htable.specs.declared.faults.LookFault.TheVariants as looks
 use Rattle.lt_store.specs.Acting.{IsKind, IsStep, TellsSeen, reply_of}
 use Rattle.lt_store.specs.Promise.{RepliesSeen}
 use Rattle.lt_store.specs.Faults.{fault_of_look}
-use Rattle.lt_store.specs.Getting.{AnswersSeen, Finds}
+use Rattle.lt_store.specs.Getting.{AnswersSeen, Finds, KeepsBound}
 use Rattle.lt_tables.specs.Table.{value_of}
 use Rattle.lt_language.specs.Replies as replies
 use Rattle.lt_language.specs.Replies.{Reply}
@@ -91,6 +91,10 @@ module _ (up : Bool) (result : Result Taken WriteFault) (fault : WriteFault) (wa
 -- the key of a get
 pub same-key : (a b : List ℕ) → ◌≡◌ {A = Option Command} (Some (commands.get a)) (Some (commands.get b)) → a ≡ b
 same-key a b h = cc
+
+-- the bound of a get's key is that of the command's
+pub get-bound : {T : Type 0} (D : Ghosts T) (pending : List Item) (a b : List ℕ) (command : Option Command) (old new : T) → command ≡ Some (commands.get a) → command ≡ Some (commands.get b) → KeepsBound D pending a old new → KeepsBound D pending b old new
+get-bound D pending a b command old new is was h = subst (λ (k : List ℕ). KeepsBound D pending k old new) (same-key a b (sym is ∙ was)) h
 
 pub tells-fault : (page : List ℕ) (seen : Result (Option Item) LookFault) (fault : LookFault) (told : WriteFault) → told ≡ fault_of_look fault → AnswersSeen page seen (Err fault) → TellsSeen seen page (Err told)
 tells-fault page seen looks.Device told is h = subst (λ (f : WriteFault). TellsSeen seen page (Err f)) (sym is) tt

@@ -1,17 +1,17 @@
 //! The calls of a store as events.
 
-ghost use Rattle.std.specs.Prelude.{IfSome, ◌≡◌, ◌↔◌, ℕ, List, ◌*◌, ◌≤◌, true, false, [], Ok, Some, IfOk, IsErrOf};
+ghost use Rattle.std.specs.Prelude.{IfSome, ◌≡◌, ◌↔◌, ℕ, List, ◌≤◌, true, false, [], Ok, Some, IfOk, IsErrOf};
 ghost use Rattle.std.specs.Prelude.{IsSome, IsTrue, OnErr, OnOk};
 ghost use Rattle.lt_terms.specs.Bytes.{Image};
 ghost use Rattle.lt_terms.specs.Causes.{Rose};
 ghost use Rattle.lt_device.specs.Reads.{CountsAtMost};
 ghost use Rattle.lt_language.specs.Commands as commands;
 ghost use Rattle.lt_language.specs.Machine.{most_writes};
-ghost use Rattle.lt_store.specs.Acting.{IsStopped, KeepsOut, MayAct, TellsSeen, accepted_as, asked_by, command_of};
-ghost use Rattle.lt_store.specs.Acting.{only_asks, reply_of, write_of, IsKind, IsStepOf};
+ghost use Rattle.lt_store.specs.Acting.{IsStopped, KeepsOut, MayAct, TellsSeen, accepted_as, command_of};
+ghost use Rattle.lt_store.specs.Acting.{most_reads_by, only_asks, reply_of, write_of, IsKind, IsStepOf};
 ghost use Rattle.lt_store.specs.Committing.{committed};
 ghost use Rattle.lt_store.specs.Counts.{stat_of, TellsImages};
-ghost use Rattle.lt_store.specs.Getting.{seen_of};
+ghost use Rattle.lt_store.specs.Getting.{KeepsBound, seen_of};
 ghost use Rattle.lt_store.specs.Open.{SameRegions, blocks_of};
 ghost use Rattle.lt_store.specs.Taking.{IsFull};
 ghost use Rattle.lt_store.specs.View.{view_of};
@@ -124,8 +124,11 @@ impl Store {
             → SameRegions (view_of self.old) (view_of self.new) }
         ensures size { D.blocks device.new ≡ D.blocks device.old }
         ensures count { write_of event.entry ≡ None
-            → CountsAtMost (2 * asked_by (view_of self.old) event.entry) (D.reads device.old)
+            → CountsAtMost (most_reads_by (view_of self.old) event.entry) (D.reads device.old)
             (D.reads device.new) }
+        ensures bound { (key : List ℕ) → command_of event.entry ≡ Some (commands.get key)
+            → WhereOpen D.Device self.old device.old
+            (λ _. KeepsBound D.Device self.old.log.pending key device.old device.new) }
     {
         match event {
             EventView::Put { key, value } => {

@@ -140,7 +140,7 @@ impl Store {
             → (view_of self.new ≡ view_of self.old) × (device.new ≡ device.old) }
         ensures installs { Installs D.Device self.old self.new numbers.now result device.old
             device.new }
-        ensures filters { self.new.filters.items ≡ self.old.filters.items }
+        ensures filters { self.new.filters ≡ self.old.filters }
     {
         let change = Change::Flush {
             tables: Numbers::of(Vec::from_slice(alloc, numbers)?),

@@ -1,4 +1,4 @@
-use Rattle.std.proofs.Common.{rules, ◌≡◌, ℕ, sym, ap, subst, ◌∙◌, List, [], Some, None, Ok, Err, vec_len}
+use Rattle.std.proofs.Common.{rules, ◌≡◌, ℕ, sym, ap, subst, ◌∙◌, List, [], Some, None, Ok, Err, length}
 use Rattle.std.specs.Prelude.{IsErrOf}
 use Rattle.std.proofs.lemmas.Result.{err_from_is_err_and}
 use Rattle.lt_htable.specs.declared.faults.LookFault.TheVariants.{Damaged}
@@ -13,7 +13,7 @@ use Rattle.lt_store.specs.Promise.{StopsGet}
 use Rattle.lt_store.specs.Getting.{AnswersSeen, seen_of}
 use Rattle.lt_store.specs.Open.{StoreView, state_of}
 use Rattle.lt_store.specs.View.{view_of}
-use Rattle.lt_store.proofs.ActLaws.{asks-goes, asks-rooted, event-rooted, event-writes, none-rooted, stat-step, put-step, delete-step, refused-goes, same-err, same-key, same-ok, same-stat, tells-fault, tells-none, tells-value, limits, write-kind}
+use Rattle.lt_store.proofs.ActLaws.{asks-goes, asks-rooted, event-rooted, event-writes, none-rooted, stat-step, put-step, delete-step, get-bound, refused-goes, same-err, same-key, same-ok, same-stat, tells-fault, tells-none, tells-value, limits, write-kind}
 use Rattle.lt_store.proofs.AnswerLaws.{all-writes}
 use Rattle.lt_store.proofs.GoLaws.{goes-none}
 use Rattle.lt_store.proofs.RootedLaws.{rooted-none}
@@ -35,7 +35,7 @@ pub returns-in_ok-put-in-Put-clause-step : goal.returns-in_ok-put-in-Put-clause-
 returns-in_ok-put-in-Put-clause-step g c = λ durable opened.
     let s = c.args.self.now in
     let answer = c.in_ok-put-in-Put in
-    let number = all-writes (view_of s) durable (g.D.Device.state c.args.device.now) opened (vec_len s.filters) (s.kept c.requires.up) c.in-Put.key.now in
+    let number = all-writes (view_of s) durable (g.D.Device.state c.args.device.now) opened (length s.filters) (s.kept c.requires.up) c.in-Put.key.now in
     rw c.in-Put.is
     (put-step s.manifest.manifest.header.extents s.writes (state_of (view_of s) durable) answer.field-0 number (limits answer.field-0 _ answer.ensures.limit)
     (λ needed free is. ((answer.ensures.full needed free (ap Ok is)).short, (answer.ensures.writes.full_images needed free (ap Ok is) durable opened).1)) c.in-Put.key.now c.in-Put.value.now c.args.out.now)
@@ -57,7 +57,7 @@ pub returns-in_ok-delete-in-Delete-clause-step : goal.returns-in_ok-delete-in-De
 returns-in_ok-delete-in-Delete-clause-step g c = λ durable opened.
     let s = c.args.self.now in
     let answer = c.in_ok-delete-in-Delete in
-    let number = all-writes (view_of s) durable (g.D.Device.state c.args.device.now) opened (vec_len s.filters) (s.kept c.requires.up) c.in-Delete.key.now in
+    let number = all-writes (view_of s) durable (g.D.Device.state c.args.device.now) opened (length s.filters) (s.kept c.requires.up) c.in-Delete.key.now in
     rw c.in-Delete.is
     (delete-step s.manifest.manifest.header.extents s.writes (state_of (view_of s) durable) answer.field-0 number (limits answer.field-0 _ answer.ensures.limit)
     (λ needed free is. ((answer.ensures.full needed free (ap Ok is)).short, (answer.ensures.writes.full_images needed free (ap Ok is) durable opened).1)) c.in-Delete.key.now c.args.out.now)
@@ -108,12 +108,21 @@ returns-in-None-clause-seen g c = λ key image is told.
     let was : c.get.result ≡ Ok None = search rules in
     tells-none c.get.new.out (seen_of v image key) (subst (λ (k : List ℕ). AnswersSeen c.get.new.out (seen_of v image k) (Ok None)) same (rw was at (c.get.ensures.seen image told)))
 
+pub returns-in_err-len-in-Get-clause-bound : goal.returns-in_err-len-in-Get-clause-bound
+returns-in_err-len-in-Get-clause-bound g c = λ key is durable opened. get-bound g.D.Device c.args.self.now.log.pending c.in-Get.key.now key _ c.args.device.now c.get.new.device (ap command_of c.in-Get.is) is (c.get.ensures.bound durable opened)
+
+pub returns-in-Some-clause-bound : goal.returns-in-Some-clause-bound
+returns-in-Some-clause-bound g c = λ key is durable opened. get-bound g.D.Device c.args.self.now.log.pending c.in-Get.key.now key _ c.args.device.now c.get.new.device (ap command_of c.in-Get.is) is (c.get.ensures.bound durable opened)
+
+pub returns-in-None-clause-bound : goal.returns-in-None-clause-bound
+returns-in-None-clause-bound g c = λ key is durable opened. get-bound g.D.Device c.args.self.now.log.pending c.in-Get.key.now key _ c.args.device.now c.get.new.device (ap command_of c.in-Get.is) is (c.get.ensures.bound durable opened)
+
 -- ---- a stat
 
 pub returns-in-Stat-clause-step : goal.returns-in-Stat-clause-step
 returns-in-Stat-clause-step g c = λ durable opened.
     let s = c.args.self.now in
-    let number = all-writes (view_of s) durable (g.D.Device.state c.args.device.now) opened (vec_len s.filters) (s.kept c.requires.up) [] in
+    let number = all-writes (view_of s) durable (g.D.Device.state c.args.device.now) opened (length s.filters) (s.kept c.requires.up) [] in
     rw c.in-Stat.is (stat-step s.manifest.manifest.header.extents (state_of (view_of s) durable) c.stat.result c.args.out.now (ap (λ (t : Stat). t.writes) c.stat.ensures.stat ∙ sym number) c.stat.ensures.within)
 
 pub returns-in-Stat-clause-goes : goal.returns-in-Stat-clause-goes

@@ -1,4 +1,4 @@
-use Rattle.std.proofs.Common.{arith, vec_len}
+use Rattle.std.proofs.Common.{arith, length}
 use Rattle.lt_store.specs.View.{view_of}
 use Rattle.lt_store.proofs.CountLaws.{tables-free}
 use Rattle.lt_store.proofs.FullLaws.{image-counts}
@@ -12,11 +12,11 @@ returns-clause-told g c =
       few = omega (arith, kept.room, kept.least);
       images = λ durable opened left may.
           rw (c.tables.ensures.count, c.trie.ensures.nodes, c.free.ensures)
-          (image-counts (view_of s) durable (g.D.Device.state c.args.device.now) (vec_len s.filters) opened kept left may);
+          (image-counts (view_of s) durable (g.D.Device.state c.args.device.now) (length s.filters) opened kept left may);
     }
 
 pub returns-clause-within : goal.returns-clause-within
 returns-clause-within g c =
     let s = c.args.self.now in
-    let few = tables-free s.manifest s.log s.memory s.extents (vec_len s.filters) s.writes (s.kept c.requires) in
+    let few = tables-free s.manifest s.log s.memory s.extents (length s.filters) s.writes (s.kept c.requires) in
     rw (c.tables.ensures.count, c.trie.ensures.nodes, c.free.ensures) few
