@@ -22,7 +22,7 @@ use Rattle.lt_device.specs.State as told
 use Rattle.lt_format.specs.declared.geometry.Geometry.{Geometry}
 use Rattle.lt_store.specs.Promise.{IsFresh, IsOccupied, IsVacant, StopsOpening}
 use Rattle.lt_language.specs.Machine.{State}
-use Rattle.lt_serve.specs.Promise.{AnswersSeen, IsSound, Sight, TurnedOver, FoundByGet}
+use Rattle.lt_serve.specs.Promise.{AnswersSeen, IsSound, Moment, Sight, TurnedOver, FoundByGet}
 
 -- `run`
 abbrev pub IsRun : List (String Global) → Type 0
@@ -138,7 +138,7 @@ IsSpared old new = ForSome old.shown (λ image. block_at image 0 ≢ zero_block 
 -- A run on a device at rest for `before`, in a store of e extents: how serving ended, from nothing taken and nothing
 -- shown.
 pub record Ended (e : ℕ) (before : State) (status : Status) (left0 left : Option (List ℕ)) (stands0 stands : List ℕ
-    → Type 0) (faults0 faults : ℕ) (old new : told.State) : Type 0 where
+    → Type 0) (faults0 faults : ℕ) (old new : Moment) : Type 0 where
   pub served : Served
   pub is : status ≡ status_of served
   pub sound : IsSound served

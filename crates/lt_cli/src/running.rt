@@ -8,7 +8,7 @@ ghost use Rattle.lt_image.specs.Versions.{Opened, open_image};
 ghost use Rattle.lt_store.specs.Promise.{seen_on, Rests};
 ghost use Rattle.lt_cli.specs.Promise.{RunSeen, Ended, FoundDamage, Unopened, IsRunEnd};
 ghost use Rattle.lt_language.specs.Machine.{State};
-ghost use Rattle.lt_serve.specs.Promise.{FailsToOpen};
+ghost use Rattle.lt_serve.specs.Promise.{FailsToOpen, moment_of};
 
 use crate::status::Status;
 use crate::telling::tell_damage;
@@ -26,8 +26,8 @@ pub(super) fn run<S: Source, K: Sink, D: Device>(
 ) -> Status
     ensures over { (before : State) (r : Rests before (D.state device.old))
         → Ended r.rest.named.manifest.header.extents before result (S.left source.old) (S.left source.new)
-        (K.stands sink.old) (K.stands sink.new) (K.faults sink.old) (K.faults sink.new) (D.state device.old)
-        (D.state device.new) }
+        (K.stands sink.old) (K.stands sink.new) (K.faults sink.old) (K.faults sink.new)
+        (moment_of D.Device device.old) (moment_of D.Device device.new) }
     ensures end { IsRunEnd result }
     ensures damaged { result ≡ Status.Damaged
         → FoundDamage (S.left source.old) (S.left source.new) (K.stands sink.old) (K.stands sink.new)

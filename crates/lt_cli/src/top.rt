@@ -10,7 +10,7 @@ ghost use Rattle.lt_store.specs.Promise.{seen_on, Rests};
 ghost use Rattle.lt_cli.specs.Promise.{RunSeen, IsMade, IsRefused, IsSpared, Ended, FoundDamage, Unopened, IsInitEnd};
 ghost use Rattle.lt_cli.specs.Promise.{IsRunEnd, IsUncounted, IsInit, IsRun};
 ghost use Rattle.lt_language.specs.Machine.{State};
-ghost use Rattle.lt_serve.specs.Promise.{FailsToOpen};
+ghost use Rattle.lt_serve.specs.Promise.{FailsToOpen, moment_of};
 
 use crate::making::make;
 use crate::running::run;
@@ -41,8 +41,8 @@ pub fn lsm_trie<S: Source, K: Sink, D: Device>(
     // `run` on a device at rest: the answers, the crashes, and no damage.
     ensures run { IsRun words.now → (before : State) (r : Rests before (D.state device.old))
         → Ended r.rest.named.manifest.header.extents before result (S.left source.old) (S.left source.new)
-        (K.stands sink.old) (K.stands sink.new) (K.faults sink.old) (K.faults sink.new) (D.state device.old)
-        (D.state device.new) }
+        (K.stands sink.old) (K.stands sink.new) (K.faults sink.old) (K.faults sink.new)
+        (moment_of D.Device device.old) (moment_of D.Device device.new) }
 
     // `run` on any device.
     ensures run_end { IsRun words.now → IsRunEnd result }
