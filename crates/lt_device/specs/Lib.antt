@@ -1,5 +1,6 @@
 pub mod Calls
 pub mod History
+pub mod Laws
 pub mod Memory
 pub mod Moments
 pub mod Reads
