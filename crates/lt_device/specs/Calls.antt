@@ -3,6 +3,7 @@ use Rattle.std.specs.Prelude.{◌≡◌, ℕ, ◌≤◌, List, Result, OnOk, OnE
 use Rattle.std.specs.Option.{ForSome}
 use Rattle.lt_terms.specs.Bytes.{block_at}
 use Rattle.lt_terms.specs.Causes.{CountsOne, HasCause, Rose}
+use Rattle.lt_device.specs.Moments.{ConfinedTo, ShowsSameOutside}
 use Rattle.lt_device.specs.Reads.{CountsAtMost}
 use Rattle.lt_device.specs.State.{EndedSync, Wrote, synced, written}
 use Rattle.lt_device.specs.declared.device.Device.{Ghosts}
@@ -31,6 +32,18 @@ pub record ReadsAndWrites {D : Type 0} (g : Ghosts D) (most : ℕ) (failed : Typ
   pub count : CountsAtMost most (g.reads old) (g.reads new)
   pub later : g.faults old ≤ g.faults new
   pub cause : failed → Rose (g.faults old) (g.faults new)
+
+-- The calls touch none but these blocks: each image since agrees outside them with one that a crash could have left
+-- before, and there the device reads as before.
+pub record TouchesOnly {D : Type 0} (g : Ghosts D) (inside : ℕ → Type 0) (old new : D) : Type 0 where
+  pub confined : ConfinedTo inside (g.state old) (g.state new)
+  pub others : ShowsSameOutside inside (g.state old).shown (g.state new).shown
+
+-- The calls only write, none but these blocks, and sync nothing.
+pub record FillsOnly {D : Type 0} (g : Ghosts D) (inside : ℕ → Type 0) (failed : Type 0) (old new : D) : Type 0 where
+  pub touches : TouchesOnly g inside old new
+  pub no_sync : (g.state new).past ≡ (g.state old).past
+  pub calls : OnlyWrites g failed old new
 
 -- One read of a block: what the page holds, and what the read leaves, as each device promises it.
 pub record ReadsBlock {D T E : Type 0} (g : Ghosts D) (block : ℕ) (old new : D) (page : List ℕ) (result : Result T E)
