@@ -17,15 +17,15 @@ returns-in-Ok-clause-grouped g c =
     group-after c.args.geometry.now c.args.first c.args.tables.now c.deref.result.now (g.D.Device.state c.args.device.now).shown (g.D.Device.state c.write_group.new.device).shown
     (λ image was. c.deref.ensures.value ∙ c.in_ok-pages.ensures.filters image was)
     c.in-Ok.ensures.grouped
-    (subst (λ (o : Option Image). ShowsSameOutside (InColumns c.args.first) o (g.D.Device.state c.write_group.new.device).shown) shown c.write_group.ensures.others)
+    (subst (λ (o : Option Image). ShowsSameOutside (InColumns c.args.first) o (g.D.Device.state c.write_group.new.device).shown) shown c.write_group.ensures.fills.touches.others)
     c.requires.apart
 
 pub returns-in-Ok-clause-confined : goal.returns-in-Ok-clause-confined
 returns-in-Ok-clause-confined g c =
     subst (λ (s : State). ConfinedTo (InExtent c.args.first) s (g.D.Device.state c.write_group.new.device)) c.filters_of.ensures.calls.state
-    (confined_widens c.write_group.ensures.confined (wider c.args.first))
+    (confined_widens c.write_group.ensures.fills.touches.confined (wider c.args.first))
 
 pub returns-in-Err-Device-clause-confined : goal.returns-in-Err-Device-clause-confined
 returns-in-Err-Device-clause-confined g c =
     subst (λ (s : State). ConfinedTo (InExtent c.args.first) s (g.D.Device.state c.write_group.new.device)) c.filters_of.ensures.calls.state
-    (confined_widens c.write_group.ensures.confined (wider c.args.first))
+    (confined_widens c.write_group.ensures.fills.touches.confined (wider c.args.first))
