@@ -1,7 +1,7 @@
 //! What is true of a job in flight outlasts what a store does beside it, and its commit keeps what an image
 //! stands for.
 
-ghost use Rattle.std.specs.Prelude.{◌≡◌, ℕ, ◌+◌, ◌<◌, ◌≤◌, ◌||◌, ◌++◌, Bool, List, Ok, Some};
+ghost use Rattle.std.specs.Prelude.{◌≡◌, ℕ, ◌+◌, ◌<◌, ◌≤◌, ◌||◌, ◌++◌, Bool, List, [], Ok, Some};
 ghost use Rattle.std.specs.Prelude.{length, take, slice_index, slice_index_or, IsTrue};
 ghost use Rattle.lt_terms.specs.Items.{Item};
 ghost use Rattle.lt_terms.specs.Bytes.{Image};
@@ -11,15 +11,27 @@ ghost use Rattle.lt_format.specs.declared.node_id.NodeId.{NodeId};
 ghost use Rattle.lt_tables.specs.Table.{newest};
 ghost use Rattle.lt_format.specs.Changes.{Change, are_new, fits, flush, new_extents, after_change};
 ghost use Rattle.lt_format.specs.Snapshot.{Named, may_commit, after_commit};
-ghost use Rattle.lt_format.specs.Trie.{Trie, IsTrie, named, node_at};
+ghost use Rattle.lt_format.specs.Trie.{Trie, IsTrie, all_distinct, named, node_at};
 ghost use Rattle.lt_image.specs.After.{SameExtents};
 ghost use Rattle.lt_image.specs.Needs.{is_slack, waits};
 ghost use Rattle.lt_image.specs.Shares.{Share, needed, shares_of};
 ghost use Rattle.lt_image.specs.Versions.{free_extents, items_at, Opened, open_image};
 ghost use Rattle.lt_image.specs.Standing.{Stands};
 ghost use Rattle.lt_compact.specs.Jobs.{JobView, IsShaped, KeepsJob, KeepsStage, change_of, is_loose, planned};
-ghost use Rattle.lt_compact.specs.Jobs.{filling, is_told_slack, scanning, taken_in};
+ghost use Rattle.lt_compact.specs.Extents.{AllTaken, GoesWith};
+ghost use Rattle.lt_compact.specs.Jobs.{begun, filling, is_told_slack, scanning, taken_in};
 ghost use Rattle.lt_compact.specs.Plans.{Content, Holds, all_contents, are_shared, extents_for};
+
+/// A job as it begins goes with the trie, where the extents that the trie names are taken. So does one that has
+/// reserved nothing, whatever other extents are taken.
+pub fn jobs_begin()
+    ensures begun { (levels : ℕ) (trie : Trie) (taken : List Bool) (id : NodeId)
+        → 1 ≤ length (node_at trie id).tables → AllTaken taken (named trie)
+        → IsTrue (all_distinct (named trie)) → GoesWith levels trie taken (begun levels trie id) }
+    ensures unreserved { (levels : ℕ) (trie : Trie) (taken : List Bool) (j : JobView)
+        → IsShaped levels trie j → taken_in j.stage ≡ [] → AllTaken taken (named trie)
+        → IsTrue (all_distinct (named trie)) → GoesWith levels trie taken j }
+{}
 
 /// The change of a ready job fits the trie, whatever the device tells, and newly names what the job reserved.
 pub fn jobs_fit()

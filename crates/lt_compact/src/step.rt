@@ -8,9 +8,8 @@ ghost use Rattle.lt_device.specs.Moments.{ConfinedTo, ShowsSameOutside};
 ghost use Rattle.lt_format.specs.Layout.{blocks_needed, extent_block};
 ghost use Rattle.lt_format.specs.Snapshot.{Named};
 ghost use Rattle.lt_format.specs.Trie as format;
-ghost use Rattle.lt_format.specs.Trie.{all_distinct, named};
 ghost use Rattle.lt_image.specs.Shares.{Share};
-ghost use Rattle.lt_compact.specs.Extents.{AllTaken};
+ghost use Rattle.lt_compact.specs.Extents.{GoesWith};
 ghost use Rattle.lt_compact.specs.Inside.{kept_of};
 ghost use Rattle.lt_compact.specs.Plans.{MayFill};
 ghost use Rattle.lt_compact.specs.Jobs.{IsShaped, KeepsJob, filling, is_filled, taken_in};
@@ -67,9 +66,7 @@ impl Job {
     ) -> Result<Stepped, JobFault>
         requires levels { trie.now.levels ≡ geometry.now.levels }
         requires not_ready { is_filled self.old.stage ≡ false }
-        requires shaped { IsShaped geometry.now.levels trie.now.nodes self.old }
-        requires taken { AllTaken extents.old (named trie.now.nodes ++ taken_in self.old.stage) }
-        requires apart { IsTrue (all_distinct (named trie.now.nodes ++ taken_in self.old.stage)) }
+        requires goes { GoesWith geometry.now.levels trie.now.nodes extents.old self.old }
         requires within { blocks_needed geometry.now (length extents.old) ≤ D.blocks device.old }
 
         // What it answers, and what it leaves. After an `Err` neither job nor extents have changed.
@@ -83,13 +80,11 @@ impl Job {
         ensures extents { OnErr result (extents.new ≡ extents.old) }
 
         // What is true of a job stays true, whatever it answers.
-        ensures shaped { IsShaped geometry.now.levels trie.now.nodes self.new }
+        ensures goes { GoesWith geometry.now.levels trie.now.nodes extents.new self.new }
         ensures keeps { (m : Named) (before image : Image) → m.geometry ≡ geometry.now
             → m.manifest.trie ≡ trie.now.nodes → (D.state device.old).shown ≡ Some before
             → (D.state device.new).shown ≡ Some image → KeepsJob m before self.old
             → KeepsJob m image self.new }
-        ensures taken { AllTaken extents.new (named trie.now.nodes ++ taken_in self.new.stage) }
-        ensures apart { IsTrue (all_distinct (named trie.now.nodes ++ taken_in self.new.stage)) }
         ensures count { length extents.new ≡ length extents.old }
 
         // It touches no block but of the extent that it fills, and syncs nothing.
