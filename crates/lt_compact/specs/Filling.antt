@@ -1,6 +1,8 @@
--- Where an extent stands among those that shares take.
+-- Where an extent stands among those that shares take, and what filling it leaves alone.
 use Rattle.std.specs.Prelude.{◌≡◌, ℕ, ◌+◌, ◌<◌, ◌≤◌, List, take, slice_get, Some, IsTrue}
 use Rattle.lt_terms.specs.Bytes.{is_in}
+use Rattle.lt_device.specs.Moments.{ConfinedTo, ShowsSameOutside}
+use Rattle.lt_device.specs.State.{State}
 use Rattle.lt_format.specs.declared.geometry.Geometry.{Geometry}
 use Rattle.lt_format.specs.Layout.{extent_block}
 use Rattle.lt_image.specs.Shares.{Share, share_extents}
@@ -18,3 +20,9 @@ pub record IsSpot (levels : ℕ) (shares : List Share) (filled share first place
   pub before : first ≡ extents_for levels (take share shares)
   pub is : filled ≡ first + place
   pub below : place < share_extents levels here
+
+-- between these moments no other blocks were written, and nothing was synced
+pub record TouchesOnly (inside : ℕ → Type 0) (old new : State) : Type 0 where
+  pub confined : ConfinedTo inside old new
+  pub others : ShowsSameOutside inside old.shown new.shown
+  pub no_sync : new.past ≡ old.past

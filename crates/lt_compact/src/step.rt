@@ -4,12 +4,12 @@ ghost use Rattle.std.specs.Prelude.{◌≡◌, ℕ, ◌+◌, ◌<◌, ◌≤◌,
 ghost use Rattle.std.specs.Prelude.{IfOk, IfErr, OnErr, IsErrOf, IsTrue, length, vec_capacity, vec_len};
 ghost use Rattle.lt_terms.specs.Bytes.{Image, is_in};
 ghost use Rattle.lt_device.specs.Calls.{OnlyReads, ReadsAndWrites};
-ghost use Rattle.lt_device.specs.Moments.{ConfinedTo, ShowsSameOutside};
 ghost use Rattle.lt_format.specs.Layout.{blocks_needed, extent_block};
 ghost use Rattle.lt_format.specs.Snapshot.{Named};
 ghost use Rattle.lt_format.specs.Trie as format;
 ghost use Rattle.lt_image.specs.Shares.{Share};
 ghost use Rattle.lt_compact.specs.Extents.{GoesWith};
+ghost use Rattle.lt_compact.specs.Filling.{TouchesOnly};
 ghost use Rattle.lt_compact.specs.Inside.{kept_of};
 ghost use Rattle.lt_compact.specs.Plans.{MayFill};
 ghost use Rattle.lt_compact.specs.Jobs.{IsShaped, KeepsJob, filling, is_filled, taken_in};
@@ -88,11 +88,8 @@ impl Job {
         ensures count { length extents.new ≡ length extents.old }
 
         // It touches no block but of the extent that it fills, and syncs nothing.
-        ensures confined { ConfinedTo (InExtents geometry.now (next_extents self.old.stage))
+        ensures touches { TouchesOnly (InExtents geometry.now (next_extents self.old.stage))
             (D.state device.old) (D.state device.new) }
-        ensures others { ShowsSameOutside (InExtents geometry.now (next_extents self.old.stage))
-            (D.state device.old).shown (D.state device.new).shown }
-        ensures no_sync { (D.state device.new).past ≡ (D.state device.old).past }
         ensures damaged { (b : ℕ) → IsErrOf result (JobFault.Damaged b)
             → IsDamaged geometry.now (D.state device.old).shown self.old.sources b }
         ensures calls { ReadsAndWrites D.Device 64 (IsErrOf result JobFault.Device)
@@ -233,11 +230,8 @@ impl Job {
             → Advances geometry.now (D.state device.old).shown (D.state device.new).shown nodes
             taken taken self.old self.new stepped) }
         ensures unchanged { OnErr result (self.new ≡ self.old) }
-        ensures confined { ConfinedTo (InExtents geometry.now (next_extents self.old.stage))
+        ensures touches { TouchesOnly (InExtents geometry.now (next_extents self.old.stage))
             (D.state device.old) (D.state device.new) }
-        ensures others { ShowsSameOutside (InExtents geometry.now (next_extents self.old.stage))
-            (D.state device.old).shown (D.state device.new).shown }
-        ensures no_sync { (D.state device.new).past ≡ (D.state device.old).past }
         ensures only { (b : ℕ) → IsErrOf result (JobFault.Damaged b) → ⊥ }
         ensures calls { ReadsAndWrites D.Device 64 (IsErrOf result JobFault.Device)
             device.old device.new }

@@ -7,25 +7,23 @@ use Rattle.lt_compact.proofs.JobLaws.{built-more, next-confined, next-others}
 use Rattle.lt_compact.proofs.PlanLaws.{length-all_contents}
 use Rattle.lt_compact.proofs.job.Job.fill_extent.Goals as goal
 
-pub returns-in_err-built-clause-confined : goal.returns-in_err-built-clause-confined
-returns-in_err-built-clause-confined g c =
+pub returns-in_err-built-clause-touches : goal.returns-in_err-built-clause-touches
+returns-in_err-built-clause-touches g c =
     let stage : c.args.self.now.stage ≡ filling c.in-Filling.shares.items c.in-Filling.numbers.items c.in-Filling.filled = ap (λ (j : JobView). j.stage) (sym c.self.view_is) ∙ ap stage_in c.in-Filling.is in
-    next-confined c.args.geometry.now c.args.self.now.stage c.in-Filling.shares.items c.in-Filling.numbers.items c.deref-2.result.now c.in-Filling.filled stage c.deref-2.ensures.value (c.requires.left c.in-Filling.shares.items c.in-Filling.numbers.items c.in-Filling.filled stage) _ _ c.fill.ensures.confined
+    record {
+      confined = next-confined c.args.geometry.now c.args.self.now.stage c.in-Filling.shares.items c.in-Filling.numbers.items c.deref-2.result.now c.in-Filling.filled stage c.deref-2.ensures.value (c.requires.left c.in-Filling.shares.items c.in-Filling.numbers.items c.in-Filling.filled stage) _ _ c.fill.ensures.touches.confined;
+      others = next-others c.args.geometry.now c.args.self.now.stage c.in-Filling.shares.items c.in-Filling.numbers.items c.deref-2.result.now c.in-Filling.filled stage c.deref-2.ensures.value (c.requires.left c.in-Filling.shares.items c.in-Filling.numbers.items c.in-Filling.filled stage) _ _ c.fill.ensures.touches.others;
+      no_sync = c.fill.ensures.touches.no_sync;
+    }
 
-pub returns-in_err-built-clause-others : goal.returns-in_err-built-clause-others
-returns-in_err-built-clause-others g c =
+pub returns-clause-touches : goal.returns-clause-touches
+returns-clause-touches g c =
     let stage : c.args.self.now.stage ≡ filling c.in-Filling.shares.items c.in-Filling.numbers.items c.in-Filling.filled = ap (λ (j : JobView). j.stage) (sym c.self.view_is) ∙ ap stage_in c.in-Filling.is in
-    next-others c.args.geometry.now c.args.self.now.stage c.in-Filling.shares.items c.in-Filling.numbers.items c.deref-2.result.now c.in-Filling.filled stage c.deref-2.ensures.value (c.requires.left c.in-Filling.shares.items c.in-Filling.numbers.items c.in-Filling.filled stage) _ _ c.fill.ensures.others
-
-pub returns-clause-confined : goal.returns-clause-confined
-returns-clause-confined g c =
-    let stage : c.args.self.now.stage ≡ filling c.in-Filling.shares.items c.in-Filling.numbers.items c.in-Filling.filled = ap (λ (j : JobView). j.stage) (sym c.self.view_is) ∙ ap stage_in c.in-Filling.is in
-    next-confined c.args.geometry.now c.args.self.now.stage c.in-Filling.shares.items c.in-Filling.numbers.items c.deref-2.result.now c.in-Filling.filled stage c.deref-2.ensures.value (c.requires.left c.in-Filling.shares.items c.in-Filling.numbers.items c.in-Filling.filled stage) _ _ c.fill.ensures.confined
-
-pub returns-clause-others : goal.returns-clause-others
-returns-clause-others g c =
-    let stage : c.args.self.now.stage ≡ filling c.in-Filling.shares.items c.in-Filling.numbers.items c.in-Filling.filled = ap (λ (j : JobView). j.stage) (sym c.self.view_is) ∙ ap stage_in c.in-Filling.is in
-    next-others c.args.geometry.now c.args.self.now.stage c.in-Filling.shares.items c.in-Filling.numbers.items c.deref-2.result.now c.in-Filling.filled stage c.deref-2.ensures.value (c.requires.left c.in-Filling.shares.items c.in-Filling.numbers.items c.in-Filling.filled stage) _ _ c.fill.ensures.others
+    record {
+      confined = next-confined c.args.geometry.now c.args.self.now.stage c.in-Filling.shares.items c.in-Filling.numbers.items c.deref-2.result.now c.in-Filling.filled stage c.deref-2.ensures.value (c.requires.left c.in-Filling.shares.items c.in-Filling.numbers.items c.in-Filling.filled stage) _ _ c.fill.ensures.touches.confined;
+      others = next-others c.args.geometry.now c.args.self.now.stage c.in-Filling.shares.items c.in-Filling.numbers.items c.deref-2.result.now c.in-Filling.filled stage c.deref-2.ensures.value (c.requires.left c.in-Filling.shares.items c.in-Filling.numbers.items c.in-Filling.filled stage) _ _ c.fill.ensures.touches.others;
+      no_sync = c.fill.ensures.touches.no_sync;
+    }
 
 pub invariant_of-self-2 : goal.invariant_of-self-2
 invariant_of-self-2 g c =

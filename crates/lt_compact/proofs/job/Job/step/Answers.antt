@@ -27,11 +27,12 @@ pub returns-in-Scan-clause-keeps : goal.returns-in-Scan-clause-keeps
 returns-in-Scan-clause-keeps g c = λ m before image geometry trie was shown keeps.
     step-keeps m before image (g.D.Device.state c.args.device.now).shown (g.D.Device.state c.scan_table.new.device).shown c.args.extents.now c.args.extents.now c.args.self.now c.scan_table.new.self c.scan_table.result c.args.geometry.now c.args.trie.now.nodes geometry trie was shown (same-shows (InExtents c.args.geometry.now (next_extents c.args.self.now.stage)) (g.D.Device.state c.args.device.now) (g.D.Device.state c.scan_table.new.device) c.scan_table.ensures.calls.state) (record { next = returns-in-Scan-clause-next g c; unchanged = c.scan_table.ensures.unchanged }) c.requires.goes.shaped c.requires.goes.apart keeps
 
-pub returns-in-Scan-clause-confined : goal.returns-in-Scan-clause-confined
-returns-in-Scan-clause-confined g c = same-confined _ _ c.scan_table.ensures.calls.state
-
-pub returns-in-Scan-clause-others : goal.returns-in-Scan-clause-others
-returns-in-Scan-clause-others g c = same-shows (InExtents c.args.geometry.now (next_extents c.args.self.now.stage)) (g.D.Device.state c.args.device.now) (g.D.Device.state c.scan_table.new.device) c.scan_table.ensures.calls.state
+pub returns-in-Scan-clause-touches : goal.returns-in-Scan-clause-touches
+returns-in-Scan-clause-touches g c = record {
+  confined = same-confined _ _ c.scan_table.ensures.calls.state;
+  others = same-shows (InExtents c.args.geometry.now (next_extents c.args.self.now.stage)) (g.D.Device.state c.args.device.now) (g.D.Device.state c.scan_table.new.device) c.scan_table.ensures.calls.state;
+  no_sync = ap (λ (s : State). s.past) c.scan_table.ensures.calls.state;
+}
 
 pub returns-in-Scan-clause-calls : goal.returns-in-Scan-clause-calls
 returns-in-Scan-clause-calls g c = only-read c.scan_table.ensures.calls
@@ -52,11 +53,12 @@ pub returns-in-Plan-clause-keeps : goal.returns-in-Plan-clause-keeps
 returns-in-Plan-clause-keeps g c = λ m before image geometry trie was shown keeps.
     step-keeps m before image (g.D.Device.state c.args.device.now).shown (g.D.Device.state c.args.device.now).shown c.args.extents.now c.args.extents.now c.args.self.now c.plan_shares.new.self c.plan_shares.result c.args.geometry.now c.args.trie.now.nodes geometry trie was shown (same-shows (InExtents c.args.geometry.now (next_extents c.args.self.now.stage)) (g.D.Device.state c.args.device.now) (g.D.Device.state c.args.device.now) refl) (record { next = returns-in-Plan-clause-next g c; unchanged = c.plan_shares.ensures.unchanged }) c.requires.goes.shaped c.requires.goes.apart keeps
 
-pub returns-in-Plan-clause-confined : goal.returns-in-Plan-clause-confined
-returns-in-Plan-clause-confined g c = same-confined _ _ refl
-
-pub returns-in-Plan-clause-others : goal.returns-in-Plan-clause-others
-returns-in-Plan-clause-others g c = same-shows (InExtents c.args.geometry.now (next_extents c.args.self.now.stage)) (g.D.Device.state c.args.device.now) (g.D.Device.state c.args.device.now) refl
+pub returns-in-Plan-clause-touches : goal.returns-in-Plan-clause-touches
+returns-in-Plan-clause-touches g c = record {
+  confined = same-confined _ _ refl;
+  others = same-shows (InExtents c.args.geometry.now (next_extents c.args.self.now.stage)) (g.D.Device.state c.args.device.now) (g.D.Device.state c.args.device.now) refl;
+  no_sync = refl;
+}
 
 pub returns-in-Take-clause-next : goal.returns-in-Take-clause-next
 returns-in-Take-clause-next g c = at-three (λ (gg : Geometry) (shown : Option Image) (nodes : Trie) (stepped : Stepped). Advances gg shown shown nodes c.args.extents.now c.take_extents.new.extents c.args.self.now c.take_extents.new.self stepped) c.args.geometry.now (g.D.Device.state c.args.device.now).shown c.args.trie.now.nodes c.take_extents.result c.take_extents.ensures.next
@@ -77,11 +79,12 @@ returns-in-Take-clause-keeps g c = λ m before image geometry trie was shown kee
 pub returns-in-Take-clause-count : goal.returns-in-Take-clause-count
 returns-in-Take-clause-count g c = step-length c.args.geometry.now (g.D.Device.state c.args.device.now).shown (g.D.Device.state c.args.device.now).shown c.args.trie.now.nodes c.args.extents.now c.take_extents.new.extents c.args.self.now c.take_extents.new.self c.take_extents.result (returns-in-Take-clause-next g c) c.take_extents.ensures.extents
 
-pub returns-in-Take-clause-confined : goal.returns-in-Take-clause-confined
-returns-in-Take-clause-confined g c = same-confined _ _ refl
-
-pub returns-in-Take-clause-others : goal.returns-in-Take-clause-others
-returns-in-Take-clause-others g c = same-shows (InExtents c.args.geometry.now (next_extents c.args.self.now.stage)) (g.D.Device.state c.args.device.now) (g.D.Device.state c.args.device.now) refl
+pub returns-in-Take-clause-touches : goal.returns-in-Take-clause-touches
+returns-in-Take-clause-touches g c = record {
+  confined = same-confined _ _ refl;
+  others = same-shows (InExtents c.args.geometry.now (next_extents c.args.self.now.stage)) (g.D.Device.state c.args.device.now) (g.D.Device.state c.args.device.now) refl;
+  no_sync = refl;
+}
 
 pub returns-in-Fill-clause-next : goal.returns-in-Fill-clause-next
 returns-in-Fill-clause-next g c = at-all (λ (nodes : Trie) (taken : List Bool) (stepped : Stepped). Advances c.args.geometry.now (g.D.Device.state c.args.device.now).shown (g.D.Device.state c.fill_extent.new.device).shown nodes taken taken c.args.self.now c.fill_extent.new.self stepped) c.args.trie.now.nodes c.args.extents.now c.fill_extent.result c.fill_extent.ensures.next
@@ -97,7 +100,7 @@ returns-in-Fill-clause-goes g c =
 
 pub returns-in-Fill-clause-keeps : goal.returns-in-Fill-clause-keeps
 returns-in-Fill-clause-keeps g c = λ m before image geometry trie was shown keeps.
-    step-keeps m before image (g.D.Device.state c.args.device.now).shown (g.D.Device.state c.fill_extent.new.device).shown c.args.extents.now c.args.extents.now c.args.self.now c.fill_extent.new.self c.fill_extent.result c.args.geometry.now c.args.trie.now.nodes geometry trie was shown (c.fill_extent.ensures.others) (record { next = returns-in-Fill-clause-next g c; unchanged = c.fill_extent.ensures.unchanged }) c.requires.goes.shaped c.requires.goes.apart keeps
+    step-keeps m before image (g.D.Device.state c.args.device.now).shown (g.D.Device.state c.fill_extent.new.device).shown c.args.extents.now c.args.extents.now c.args.self.now c.fill_extent.new.self c.fill_extent.result c.args.geometry.now c.args.trie.now.nodes geometry trie was shown (c.fill_extent.ensures.touches.others) (record { next = returns-in-Fill-clause-next g c; unchanged = c.fill_extent.ensures.unchanged }) c.requires.goes.shaped c.requires.goes.apart keeps
 
 pub scan_table-requires-clause-within : goal.scan_table-requires-clause-within
 scan_table-requires-clause-within g c = sources-within c.args.geometry.now c.args.trie.now.nodes c.args.extents.now _ c.args.self.now c.requires.goes.shaped c.requires.goes.reserved c.requires.within
