@@ -4,7 +4,7 @@ use Rattle.std.specs.Prelude.{◌==◌, ◌||◌, All}
 use Rattle.std.proofs.Math.Seq.{take-length}
 use Rattle.std.proofs.lemmas.Bool.{eqb-true, le-leb, true≢false}
 use Rattle.lt_terms.specs.Bytes.{is_in}
-use Rattle.lt_alloc.specs.Extents.{AreTaken, is_free}
+use Rattle.lt_alloc.specs.Extents.{AreTaken}
 use Rattle.lt_format.specs.declared.node_id.NodeId.{NodeId}
 use Rattle.lt_format.specs.Trie.{Trie, all_distinct, named, node_at}
 use Rattle.lt_compact.specs.Extents.{AllTaken, GoesWith}
@@ -12,7 +12,7 @@ use Rattle.lt_compact.specs.Jobs.{IsShaped, JobView, begun, taken_in}
 
 -- ---- as it begins
 
-begun-shaped : (levels : ℕ) (trie : Trie) (id : NodeId) → 1 ≤ length (node_at trie id).tables → IsShaped levels trie (begun levels trie id)
+pub begun-shaped : (levels : ℕ) (trie : Trie) (id : NodeId) → 1 ≤ length (node_at trie id).tables → IsShaped levels trie (begun levels trie id)
 begun-shaped levels trie id some = record {
   same = refl;
   some = some;

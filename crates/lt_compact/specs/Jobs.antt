@@ -9,9 +9,9 @@ use Rattle.lt_terms.specs.Bytes.{Image}
 use Rattle.lt_terms.specs.Items.{Item}
 use Rattle.lt_tables.specs.Table.{has_two_versions, is_put, newest}
 use Rattle.lt_format.specs.declared.node_id.NodeId.{NodeId}
-use Rattle.lt_format.specs.Changes.{Change}
+use Rattle.lt_format.specs.Changes.{Change, are_new}
 use Rattle.lt_format.specs.Snapshot.{Named}
-use Rattle.lt_format.specs.Trie.{Trie, is_last_level, named, node_at}
+use Rattle.lt_format.specs.Trie.{IsTrie, Trie, is_last_level, named, node_at}
 use Rattle.lt_image.specs.After.{SameExtents}
 use Rattle.lt_image.specs.Shares.{Share, needed, shares_of}
 use Rattle.lt_image.specs.Versions.{pile_items}
@@ -132,6 +132,13 @@ is_told_slack levels trie id kept loose =
 pub record HoldsOn (m : Named) (image : Image) (j : JobView) : Type 0 where
   pub shaped : IsShaped m.geometry.levels m.manifest.trie j
   pub keeps : KeepsJob m image j
+
+-- a ready job of a trie, whose extents are new there, with its change
+pub record IsReady (levels extents : ℕ) (trie : Trie) (j : JobView) (change : Change) : Type 0 where
+  pub trie_is : IsTrie levels extents trie
+  pub shaped : IsShaped levels trie j
+  pub change_is : change_of j ≡ Some change
+  pub new : IsTrue (are_new 65536 trie (taken_in j.stage))
 
 -- the extents that the trie names, and those that the job reserved, are as before
 pub record Spares (m : Named) (old new : Image) (j : JobView) : Type 0 where

@@ -9,26 +9,25 @@ ghost use Rattle.lt_language.specs.Machine.{State};
 ghost use Rattle.lt_format.specs.declared.header.Header.{Header};
 ghost use Rattle.lt_format.specs.declared.node_id.NodeId.{NodeId};
 ghost use Rattle.lt_tables.specs.Table.{newest};
-ghost use Rattle.lt_format.specs.Changes.{Change, are_new, fits, flush, new_extents, after_change};
+ghost use Rattle.lt_format.specs.Changes.{Change, fits, flush, new_extents, after_change};
 ghost use Rattle.lt_format.specs.Snapshot.{Named, may_commit, after_commit};
-ghost use Rattle.lt_format.specs.Trie.{Trie, IsTrie, all_distinct, named, node_at};
+ghost use Rattle.lt_format.specs.Trie.{Trie, all_distinct, named, node_at};
 ghost use Rattle.lt_image.specs.After.{SameExtents};
 ghost use Rattle.lt_image.specs.Needs.{is_slack, waits};
 ghost use Rattle.lt_image.specs.Shares.{Share, needed, shares_of};
 ghost use Rattle.lt_image.specs.Versions.{free_extents, items_at, Opened, open_image};
 ghost use Rattle.lt_image.specs.Standing.{Stands};
-ghost use Rattle.lt_compact.specs.Jobs.{HasScanned, HoldsOn, IsShaped, JobView, KeepsJob, KeepsStage, Spares};
+ghost use Rattle.lt_compact.specs.Jobs.{HasScanned, HoldsOn, IsReady, IsShaped, JobView, KeepsJob, KeepsStage, Spares};
 ghost use Rattle.lt_compact.specs.Extents.{AllTaken, GoesWith};
 ghost use Rattle.lt_compact.specs.Jobs.{begun, change_of, filling, is_loose, is_told_slack, planned, scanning, taken_in};
 ghost use Rattle.lt_compact.specs.Plans.{Content, Holds, all_contents, are_shared, extents_for};
 
-/// A job as it begins goes with the trie, where the extents that the trie names are taken. So does one that has
-/// reserved nothing, whatever other extents are taken.
+/// A job as it begins has the shape that the trie wants. A job that has reserved nothing goes with the trie where
+/// the extents that the trie names are taken, whatever others are.
 pub fn jobs_begin()
-    ensures begun { (levels : ℕ) (trie : Trie) (taken : List Bool) (id : NodeId)
-        → 1 ≤ length (node_at trie id).tables → AllTaken taken (named trie)
-        → IsTrue (all_distinct (named trie)) → GoesWith levels trie taken (begun levels trie id) }
-    ensures unreserved { (levels : ℕ) (trie : Trie) (taken : List Bool) (j : JobView)
+    ensures shaped { (levels : ℕ) (trie : Trie) (id : NodeId)
+        → 1 ≤ length (node_at trie id).tables → IsShaped levels trie (begun levels trie id) }
+    ensures goes { (levels : ℕ) (trie : Trie) (taken : List Bool) (j : JobView)
         → IsShaped levels trie j → taken_in j.stage ≡ [] → AllTaken taken (named trie)
         → IsTrue (all_distinct (named trie)) → GoesWith levels trie taken j }
 {}
@@ -36,11 +35,9 @@ pub fn jobs_begin()
 /// The change of a ready job fits the trie, whatever the device tells, and newly names what the job reserved.
 pub fn jobs_fit()
     ensures fits { (levels extents : ℕ) (trie : Trie) (j : JobView) (change : Change)
-        → IsTrie levels extents trie → IsShaped levels trie j → change_of j ≡ Some change
-        → IsTrue (are_new 65536 trie (taken_in j.stage)) → IsTrue (fits levels trie change) }
+        → IsReady levels extents trie j change → IsTrue (fits levels trie change) }
     ensures names { (levels extents : ℕ) (trie : Trie) (j : JobView) (change : Change)
-        → IsTrie levels extents trie → IsShaped levels trie j → change_of j ≡ Some change
-        → IsTrue (are_new 65536 trie (taken_in j.stage)) → new_extents change ≡ taken_in j.stage }
+        → IsReady levels extents trie j change → new_extents change ≡ taken_in j.stage }
 {}
 
 /// The commit of a ready job: where the extents that were named and those of the job are as before, and the

@@ -7,12 +7,10 @@ ghost use Rattle.lt_device.specs.Calls.{OnlyReads, ReadsAndWrites};
 ghost use Rattle.lt_format.specs.Layout.{blocks_needed, extent_block};
 ghost use Rattle.lt_format.specs.Snapshot.{Named};
 ghost use Rattle.lt_format.specs.Trie as format;
-ghost use Rattle.lt_image.specs.Shares.{Share};
 ghost use Rattle.lt_compact.specs.Extents.{GoesWith};
-ghost use Rattle.lt_compact.specs.Filling.{TouchesOnly};
+ghost use Rattle.lt_compact.specs.Filling.{MayFillNext, TouchesOnly};
 ghost use Rattle.lt_compact.specs.Inside.{kept_of};
-ghost use Rattle.lt_compact.specs.Plans.{MayFill};
-ghost use Rattle.lt_compact.specs.Jobs.{IsShaped, KeepsJob, filling, is_filled, taken_in};
+ghost use Rattle.lt_compact.specs.Jobs.{IsShaped, KeepsJob, is_filled};
 ghost use Rattle.lt_compact.specs.Steps.{Advances, InExtents, IsDamaged, is_ready, made_by, next_extents};
 ghost use Rattle.lt_compact.specs.Steps.{steps_made, turn_of};
 ghost use Rattle.lt_format.specs.declared.geometry.Geometry.{Geometry};
@@ -221,11 +219,7 @@ impl Job {
     ) -> Result<Stepped, JobFault>
         requires turn { turn_of self.old ≡ Turn.Fill }
         requires levels { self.old.levels ≡ geometry.now.levels }
-        requires left { (shares : List Share) (numbers : List ℕ) (filled : ℕ)
-            → self.old.stage ≡ filling shares numbers filled → filled < length numbers }
-        requires may { (shares : List Share) (numbers : List ℕ) (filled : ℕ)
-            → self.old.stage ≡ filling shares numbers filled
-            → MayFill geometry.now (D.blocks device.old) shares numbers }
+        requires next { MayFillNext geometry.now (D.blocks device.old) self.old.stage }
         ensures next { IfOk result (λ stepped. (nodes : format.Trie) (taken : List Bool)
             → Advances geometry.now (D.state device.old).shown (D.state device.new).shown nodes
             taken taken self.old self.new stepped) }

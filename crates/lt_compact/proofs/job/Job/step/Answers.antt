@@ -1,12 +1,12 @@
-use Rattle.std.proofs.Common.{◌≡◌, ℕ, ◌≤◌, refl, sym, ap, subst, ◌∙◌, Bool, List, Option}
+use Rattle.std.proofs.Common.{refl, ap, Bool, List, Option}
 use Rattle.lt_device.specs.State.{State}
 use Rattle.lt_terms.specs.Bytes.{Image}
 use Rattle.lt_format.specs.declared.geometry.Geometry.{Geometry}
 use Rattle.lt_format.specs.Trie.{Trie}
 use Rattle.lt_compact.specs.declared.step.Stepped.{Stepped}
 use Rattle.lt_compact.specs.Steps.{Advances, InExtents, next_extents}
-use Rattle.lt_compact.proofs.AdvanceLaws.{Leaves, step-keeps, step-shaped}
-use Rattle.lt_compact.proofs.TurnLaws.{at-all, at-three, may-fill, on-err, one-left, only-read, same-confined, same-shows, sources-within, untouched}
+use Rattle.lt_compact.proofs.AdvanceLaws.{step-keeps, step-shaped}
+use Rattle.lt_compact.proofs.TurnLaws.{at-all, at-three, may-fill, on-err, one-left, only-read, same-confined, same-shows, sources-within}
 use Rattle.lt_compact.proofs.CountLaws.{step-counts}
 use Rattle.lt_compact.proofs.ReservedLaws.{step-length, step-reserved}
 use Rattle.lt_compact.proofs.job.Job.step.Goals as goal
@@ -105,11 +105,11 @@ returns-in-Fill-clause-keeps g c = λ m before image geometry trie was shown kee
 pub scan_table-requires-clause-within : goal.scan_table-requires-clause-within
 scan_table-requires-clause-within g c = sources-within c.args.geometry.now c.args.trie.now.nodes c.args.extents.now _ c.args.self.now c.requires.goes.shaped c.requires.goes.reserved c.requires.within
 
-pub fill_extent-requires-clause-left : goal.fill_extent-requires-clause-left
-fill_extent-requires-clause-left g c = one-left c.args.geometry.now.levels c.args.trie.now.nodes c.args.self.now c.requires.goes.shaped c.requires.not_ready
-
-pub fill_extent-requires-clause-may : goal.fill_extent-requires-clause-may
-fill_extent-requires-clause-may g c = may-fill c.args.geometry.now c.args.trie.now.nodes c.args.extents.now _ c.args.self.now c.requires.goes.shaped c.requires.goes.reserved c.requires.goes.apart c.requires.within
+pub fill_extent-requires-clause-next : goal.fill_extent-requires-clause-next
+fill_extent-requires-clause-next g c = record {
+  left = one-left c.args.geometry.now.levels c.args.trie.now.nodes c.args.self.now c.requires.goes.shaped c.requires.not_ready;
+  may = may-fill c.args.geometry.now c.args.trie.now.nodes c.args.extents.now _ c.args.self.now c.requires.goes.shaped c.requires.goes.reserved c.requires.goes.apart c.requires.within;
+}
 
 pub returns-in-Scan-clause-made : goal.returns-in-Scan-clause-made
 returns-in-Scan-clause-made g c = step-counts c.args.geometry.now (g.D.Device.state c.args.device.now).shown (g.D.Device.state c.scan_table.new.device).shown c.args.trie.now.nodes c.args.extents.now c.args.extents.now c.args.self.now c.scan_table.new.self c.scan_table.result (returns-in-Scan-clause-next g c) c.requires.goes.shaped
