@@ -247,6 +247,25 @@ fn puts_are_refused_once_no_extent_is_free(rt: HostRuntime) -> Result<(), NoMemo
     Ok(())
 }
 
+/// A get of a key that lies in its home bucket reads that one block.
+#[test]
+fn a_get_between_two_stats_is_counted(rt: HostRuntime) -> Result<(), NoMemory> {
+    let alloc = rt.alloc();
+    let mut device = made(alloc)?;
+    let pieces = ["put a 1\n", "put b 2\n", "stat\nget a\nstat\n"];
+    let (shown, status) = run(alloc, &mut device, &pieces)?;
+    let reads = device.reads();
+    let mut want = b"OK\nOK\n".to_vec(alloc)?;
+    for (reply, count) in [("STAT 2 ", reads.saturating_sub(1)), ("VALUE 1\nSTAT 2 ", reads)] {
+        want.extend_from_slice(reply.as_bytes())?;
+        want.extend_from_slice(count.to_string(alloc)?.as_bytes())?;
+        want.extend_from_slice(b" 1 0\n")?;
+    }
+    assert_eq!(rt; shown.as_slice(), want.as_slice());
+    assert_eq!(rt; status, 0);
+    Ok(())
+}
+
 #[test]
 fn other_words_leave_all_as_it_was(rt: HostRuntime) -> Result<(), NoMemory> {
     let alloc = rt.alloc();

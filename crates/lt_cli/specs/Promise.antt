@@ -1,6 +1,6 @@
 -- What the top call promises: the words, the statuses, what `init` makes, and how `run` ends.
 use Rattle.std.specs.Prelude.{◌≡◌, ℕ, ◌≤◌, List, [], ◌∷◌, Option, Some, None, map, codes, String, IsTrue, ◌++◌}
-use Rattle.std.specs.Prelude.{◌≢◌, ◌⊎◌, ◌<◌, Bool}
+use Rattle.std.specs.Prelude.{◌≢◌, ◌⊎◌, ◌<◌, ◌+◌, ◌^◌, Bool, Ok}
 use Rattle.std.specs.Fmt.{decimal}
 use Rattle.std.specs.String.{string_bytes}
 use Rattle.std.specs.declared.alloc.Global.{Global}
@@ -12,17 +12,21 @@ use Rattle.lt_serve.specs.declared.served.Served.TheVariants as served
 use Rattle.lt_cli.specs.declared.status.Status.{Status}
 use Rattle.lt_cli.specs.declared.status.Status.TheVariants.{Done, Words, SourceFault, SinkFault, DeviceFault, Damaged}
 use Rattle.lt_cli.specs.declared.status.Status.TheVariants.{Refused, NoMemory, Turns}
-use Rattle.lt_terms.specs.Causes.{Rose}
+use Rattle.lt_terms.specs.Causes.{Rose, RoseBy}
 use Rattle.lt_language.specs.Commands.{line_feed}
 use Rattle.lt_language.specs.Replies.{spaced}
 use Rattle.lt_io.specs.Streams.{Gains, GainsFront, Takes}
 use Rattle.std.specs.Option.{ForSome}
-use Rattle.lt_terms.specs.Bytes.{block_at, zero_block}
+use Rattle.lt_terms.specs.Bytes.{Image, block_at, zero_block}
 use Rattle.lt_device.specs.State as told
 use Rattle.lt_format.specs.declared.geometry.Geometry.{Geometry}
-use Rattle.lt_store.specs.Promise.{IsFresh, IsOccupied, IsVacant, StopsOpening}
+use Rattle.lt_store.specs.Promise.{IsFresh, IsOccupied, IsVacant, Rests, StopsOpening, seen_on}
+use Rattle.lt_device.specs.declared.device.Device.{Ghosts as Devices}
+use Rattle.lt_io.specs.declared.sink.Sink.{Ghosts as Sinks}
+use Rattle.lt_io.specs.declared.source.Source.{Ghosts as Sources}
+use Rattle.lt_image.specs.Versions.{Opened, open_image}
 use Rattle.lt_language.specs.Machine.{State}
-use Rattle.lt_serve.specs.Promise.{AnswersSeen, IsSound, Sight, TurnedOver, FoundByGet}
+use Rattle.lt_serve.specs.Promise.{AnswersSeen, FailsToOpen, FoundByGet, IsSound, Moment, Sight, TurnedOver, moment_of}
 
 -- `run`
 abbrev pub IsRun : List (String Global) → Type 0
@@ -138,7 +142,7 @@ IsSpared old new = ForSome old.shown (λ image. block_at image 0 ≢ zero_block 
 -- A run on a device at rest for `before`, in a store of e extents: how serving ended, from nothing taken and nothing
 -- shown.
 pub record Ended (e : ℕ) (before : State) (status : Status) (left0 left : Option (List ℕ)) (stands0 stands : List ℕ
-    → Type 0) (faults0 faults : ℕ) (old new : told.State) : Type 0 where
+    → Type 0) (faults0 faults : ℕ) (old new : Moment) : Type 0 where
   pub served : Served
   pub is : status ≡ status_of served
   pub sound : IsSound served
@@ -172,3 +176,49 @@ pub record RunSeen (sight : Sight) (status : Status) (left0 left : Option (List 
   pub seen : AnswersSeen sight ended taken shown
   pub gained : (status ≡ Damaged → ⊥) → Gains stands0 stands shown
   pub told : (b : ℕ) → ended ≡ served.Damaged b → GainsFront stands0 stands (shown ++ damage_line b)
+
+-- `run` on a device at rest for a state
+abbrev pub EndsAtRest : {S K D : Type 0} → Sources S → Sinks K → Devices D → Status → S → S → K → K → D → D → Type 0
+EndsAtRest u k d status source0 source sink0 sink old new = (before : State) (r : Rests before (d.state old))
+    → Ended r.rest.named.manifest.header.extents before status (u.left source0) (u.left source) (k.stands sink0)
+    (k.stands sink) (k.faults sink0) (k.faults sink) (moment_of d old) (moment_of d new)
+
+-- a run that found a block which does not stand
+abbrev pub FindsDamage : {S K D : Type 0} → Sources S → Sinks K → Devices D → S → S → K → K → D → D → Type 0
+FindsDamage u k d source0 source sink0 sink old new = FoundDamage (u.left source0) (u.left source) (k.stands sink0)
+    (k.stands sink) (k.faults sink0) (k.faults sink) (d.state old) (d.state new)
+
+-- `run` on any device that tells its blocks, where they open
+abbrev pub EndsSeen : {S K D : Type 0} → Sources S → Sinks K → Devices D → Status → S → S → K → K → D → Type 0
+EndsSeen u k d status source0 source sink0 sink old = (image : Image) (opened : Opened)
+    → (d.state old).shown ≡ Some image → open_image image ≡ Ok opened
+    → RunSeen (seen_on opened image) status (u.left source0) (u.left source) (k.stands sink0) (k.stands sink)
+
+-- `run` on any device that tells its blocks, where opening them stops at a block: nothing is read or written, and the
+-- line of that block is all that is shown
+abbrev pub EndsUnopened : {S K D : Type 0} → Sinks K → Devices D → Status → S → S → K → K → D → D → Type 0
+EndsUnopened k d status source0 source sink0 sink old new = (b : ℕ) → FailsToOpen (d.state old) b
+    → Unopened b status (k.stands sink0) (k.stands sink) (k.faults sink0) (k.faults sink)
+    × (d.state new ≡ d.state old) × (source ≡ source0) × ((status ≡ Damaged → ⊥) → sink ≡ sink0)
+
+-- A status that tells of a fault comes only where its count rose, and one that tells of too many pieces only where so
+-- many were taken; no call takes more.
+pub record HasCauses {S K D : Type 0} (u : Sources S) (k : Sinks K) (d : Devices D) (status : Status)
+    (source0 source1 : S) (sink0 sink1 : K) (old new : D) : Type 0 where
+  pub source : status ≡ SourceFault → Rose (u.faults source0) (u.faults source1)
+  pub sink : status ≡ SinkFault → Rose (k.faults sink0) (k.faults sink1)
+  pub device : status ≡ DeviceFault → Rose (d.faults old) (d.faults new)
+  pub turns : status ≡ Turns → RoseBy (2 ^ 48) (u.pieces source0) (u.pieces source1)
+  pub pieces : u.pieces source1 ≤ u.pieces source0 + 2 ^ 48
+
+-- How `init` ended for a store of this geometry and so many extents. It is refused exactly where the device has too few
+-- blocks, or else is not empty; nothing is shown but for that, and what stands on the device stays.
+pub record InitEnded {K D : Type 0} (k : Sinks K) (d : Devices D) (g : Geometry) (extents : ℕ) (status : Status)
+    (sink0 sink : K) (old new : D) : Type 0 where
+  pub end : IsInitEnd status
+  pub made : status ≡ Done → IsMade g extents (d.blocks old) (d.state old) (d.state new)
+  pub small : d.blocks old < blocks_needed g extents → status ≡ Refused
+  pub refused : status ≡ Refused → IsRefused g extents (d.blocks old) (k.stands sink0) (k.stands sink)
+      (k.faults sink0) (k.faults sink) (d.state old) (d.state new)
+  pub spared : IsSpared (d.state old) (d.state new)
+  pub quiet : (status ≡ Refused → ⊥) → sink ≡ sink0

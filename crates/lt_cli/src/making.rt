@@ -1,9 +1,9 @@
 //! The word `init`.
 
-ghost use Rattle.std.specs.Prelude.{◌≡◌, ◌<◌, ◌≤◌, IsTrue};
+ghost use Rattle.std.specs.Prelude.{◌≡◌, ◌≤◌, IsTrue};
 ghost use Rattle.lt_terms.specs.Causes.{Rose};
-ghost use Rattle.lt_format.specs.Layout.{blocks_needed, is_geometry};
-ghost use Rattle.lt_cli.specs.Promise.{IsMade, IsRefused, IsSpared, IsInitEnd};
+ghost use Rattle.lt_format.specs.Layout.{is_geometry};
+ghost use Rattle.lt_cli.specs.Promise.{InitEnded};
 
 use crate::status::Status;
 use crate::telling::tell_small;
@@ -24,17 +24,8 @@ pub(super) fn make<K: Sink, D: Device>(
     requires geometry { IsTrue (is_geometry (record { levels = levels; slots = slots })) }
     requires least { 1 ≤ extents }
     requires most { extents ≤ 65536 }
-    ensures end { IsInitEnd result }
-    ensures made { result ≡ Status.Done
-        → IsMade (record { levels = levels; slots = slots }) extents (D.blocks device.old) (D.state device.old)
-        (D.state device.new) }
-    ensures small { D.blocks device.old
-        < blocks_needed (record { levels = levels; slots = slots }) extents → result ≡ Status.Refused }
-    ensures refused { result ≡ Status.Refused
-        → IsRefused (record { levels = levels; slots = slots }) extents (D.blocks device.old) (K.stands sink.old)
-        (K.stands sink.new) (K.faults sink.old) (K.faults sink.new) (D.state device.old) (D.state device.new) }
-    ensures spared { IsSpared (D.state device.old) (D.state device.new) }
-    ensures quiet { (result ≡ Status.Refused → ⊥) → sink.new ≡ sink.old }
+    ensures init { InitEnded K.Sink D.Device (record { levels = levels; slots = slots }) extents result
+        sink.old sink.new device.old device.new }
     ensures device { result ≡ Status.DeviceFault
         → Rose (D.faults device.old) (D.faults device.new) }
 {

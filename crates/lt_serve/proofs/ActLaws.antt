@@ -3,8 +3,11 @@ use Rattle.std.proofs.Common.{◌≡◌, ℕ, ◌≤◌, refl, sym, ap, subst, �
 use Rattle.std.specs.Prelude.{IsTrue}
 use Rattle.std.proofs.lemmas.List.{take_all}
 use Rattle.lt_terms.specs.Items.{Item, put_of, delete_of}
-use Rattle.lt_device.specs.Moments.{Leaves}
+use Rattle.lt_terms.specs.Bytes.{Image}
+use Rattle.lt_device.specs.Moments.{Leaves, MayLeave}
+use Rattle.lt_device.specs.Reads.{CountsAtMost}
 use Rattle.lt_device.specs.State as told
+use Rattle.lt_image.specs.Counts.{HasCounts}
 use Rattle.lt_image.specs.Standing.{after_writes}
 use Rattle.lt_image.proofs.KeptLaws.{no_writes}
 use Rattle.lt_language.specs.declared.Bad.{Bad}
@@ -18,6 +21,7 @@ use Rattle.lt_store.specs.declared.acting.EventView.{EventView}
 use Rattle.lt_store.specs.declared.acting.EventView.TheVariants as events
 use Rattle.lt_store.specs.declared.acting.Outcome.{Outcome}
 use Rattle.lt_store.specs.declared.acting.Outcome.TheVariants as outcomes
+use Rattle.lt_store.specs.declared.counts.Stat.{Stat}
 use Rattle.lt_store.specs.declared.faults.WriteFault.{WriteFault}
 use Rattle.lt_store.specs.declared.faults.WriteFault.TheVariants as faults
 use Rattle.lt_store.specs.declared.writing.Taken.TheVariants as answer
@@ -27,10 +31,11 @@ use Rattle.lt_store.specs.Open.{IsOpen, StoreView, extents_of, state_of}
 use Rattle.lt_store.specs.Promise.{IsRooted, Rests}
 use Rattle.lt_store.proofs.GoLaws.{goes-none, open-rests}
 use Rattle.lt_store.proofs.RootedLaws.{rooted-none}
-use Rattle.lt_serve.specs.Acting.{Answers, Lost}
+use Rattle.lt_serve.specs.Acting.{Answers, Lost, TellsStat}
 use Rattle.lt_serve.specs.Faults.{round_fault_of}
 use Rattle.lt_serve.specs.Outcomes.{HasValue, is_taken, most_text, outcome_text, reply_text}
-use Rattle.lt_serve.specs.Promise.{Runs, is_ok}
+use Rattle.lt_serve.specs.Promise.{KeepsPast, Moment, Runs, is_ok}
+use Rattle.lt_serve.proofs.CountLaws.{counts-quiet}
 
 -- one command was acted
 pub runs-one : (e : ℕ) (s : State) (command : Command) (reply : Reply) (writes : List Item) → Step e s command reply (after_writes s writes) → writes ≡ taken command reply → Runs e s (command ∷ []) (reply ∷ []) writes
@@ -141,51 +146,87 @@ quiet-event (events.Get key) command outcome page e s t old new is step none ask
 quiet-event events.Stat command outcome page e s t old new is step none asked full limit = asked refl
 quiet-event events.Commit command outcome page e s t old new is step none asked full limit = absurd (cc (is))
 
+-- ---- what a `STAT` tells
+
+-- the count of reads never falls
+pub reads-event : (written : Option Item) (low high most : ℕ) → (written ≡ None → CountsAtMost most low high) → IfSome written (λ item. high ≡ low) → low ≤ high
+reads-event None low high most count same = (count refl).later
+reads-event (Some item) low high most count same = omega (arith, same)
+
+-- the numbers are those of the device and its images at this moment, and few writes are pending
+pub record IsStatOf (v : StoreView) (old : Moment) (s : Stat) : Type 0 where
+  pub reads : s.reads ≡ old.reads
+  pub few : length v.log.pending ≤ 818
+  pub images : (left : Image) → MayLeave old.state left → HasCounts left s.tables s.free
+
+abbrev pub TellsSome : StoreView → Moment → Moment → Option Reply → Type 0
+TellsSome v old new None = Unit {0}
+TellsSome v old new (Some reply) = TellsStat v old new reply
+
+-- each reply of an outcome tells so
+tells-some : (v : StoreView) (old new : Moment) (outcome : Outcome) (page : List ℕ) → old.reads ≤ new.reads → KeepsPast old.state new.state → ((s : Stat) → outcome ≡ outcomes.Stat s → IsStatOf v old s) → TellsSome v old new (reply_of outcome page)
+tells-some v old new (outcomes.Taken answer.Ok) page later past stat = record { reads = later; images = tt; past = past }
+tells-some v old new (outcomes.Taken (answer.Full n f)) page later past stat = record { reads = later; images = tt; past = past }
+tells-some v old new (outcomes.Taken answer.Limit) page later past stat = record { reads = later; images = tt; past = past }
+tells-some v old new (outcomes.Value n) page later past stat = record { reads = later; images = tt; past = past }
+tells-some v old new outcomes.Missing page later past stat = record { reads = later; images = tt; past = past }
+tells-some v old new (outcomes.Stat s) page later past stat =
+    let told = stat s refl in
+    record {
+      reads = (omega (arith, told.reads), omega (arith, told.reads, later));
+      images = (told.few, told.images);
+      past = past;
+    }
+tells-some v old new outcomes.Committed page later past stat = tt
+
 -- ---- a command that was acted
 
-answers-reply : (v w : StoreView) (durable : State) (command : Command) (item : Option Item) (outcome : Outcome) (reply : Option Reply) (waiting0 waiting : Waiting) (old new : told.State)
+answers-reply : (v w : StoreView) (durable : State) (command : Command) (item : Option Item) (outcome : Outcome) (reply : Option Reply) (waiting0 waiting : Waiting) (old new : Moment)
     → IsStep (extents_of v) (state_of v durable) (Some command) reply (after_writes (state_of v durable) (accepted_as outcome item)) → IsTakenAs command item outcome reply → IsOkAs outcome reply
-    → Goes v (accepted_as outcome item) w durable old new → Leaves IsRooted old new → (v.log.pending ≡ [] → accepted_as outcome item ≡ [] → new ≡ old) → length (reply_text reply) ≤ waiting0.room → waiting ≡ with_text waiting0 (reply_text reply)
+    → Goes v (accepted_as outcome item) w durable old.state new.state → Leaves IsRooted old.state new.state → (v.log.pending ≡ [] → accepted_as outcome item ≡ [] → new.state ≡ old.state) → TellsSome v old new reply → length (reply_text reply) ≤ waiting0.room → waiting ≡ with_text waiting0 (reply_text reply)
     → Answers v durable command (is_taken outcome) waiting0 waiting w old new
-answers-reply v w durable command item outcome None waiting0 waiting old new step taken ok goes rooted quiet fits told = absurd step
-answers-reply v w durable command item outcome (Some reply) waiting0 waiting old new step taken ok goes rooted quiet fits told = record {
+answers-reply v w durable command item outcome None waiting0 waiting old new step taken ok goes rooted quiet stat fits told = absurd step
+answers-reply v w durable command item outcome (Some reply) waiting0 waiting old new step taken ok goes rooted quiet stat fits told = record {
   reply = reply;
   writes = accepted_as outcome item;
   runs = runs-one (extents_of v) (state_of v durable) command reply (accepted_as outcome item) step taken;
   goes = goes;
   rooted = rooted;
   quiet = quiet;
+  stat = stat;
   taken_is = ok;
   fits = fits;
   told = told;
 }
 
 -- an event that a command is was acted
-pub answers-event : (v w : StoreView) (durable : State) (event : EventView) (command : Command) (outcome : Outcome) (page value : List ℕ) (waiting0 waiting : Waiting) (old new : told.State)
+pub answers-event : (v w : StoreView) (durable : State) (event : EventView) (command : Command) (outcome : Outcome) (page value : List ℕ) (waiting0 waiting : Waiting) (old new : Moment)
     → command_of event ≡ Some command
     → IsStep (extents_of v) (state_of v durable) (command_of event) (reply_of outcome page) (after_writes (state_of v durable) (accepted_as outcome (write_of event)))
-    → Goes v (accepted_as outcome (write_of event)) w durable old new → Leaves IsRooted old new
-    → (IsTrue (only_asks event) → new ≡ old) → ((n f : ℕ) → outcome ≡ outcomes.Taken (answer.Full n f) → v.log.pending ≡ [] → new ≡ old) → IfSome (write_of event) (λ item. outcome ≡ outcomes.Taken answer.Limit → new ≡ old)
+    → Goes v (accepted_as outcome (write_of event)) w durable old.state new.state → Leaves IsRooted old.state new.state
+    → (IsTrue (only_asks event) → new.state ≡ old.state) → ((n f : ℕ) → outcome ≡ outcomes.Taken (answer.Full n f) → v.log.pending ≡ [] → new.state ≡ old.state) → IfSome (write_of event) (λ item. outcome ≡ outcomes.Taken answer.Limit → new.state ≡ old.state)
+    → old.reads ≤ new.reads → KeepsPast old.state new.state → ((s : Stat) → outcome ≡ outcomes.Stat s → IsStatOf v old s)
     → ((n : ℕ) → outcome ≡ outcomes.Value n → value ≡ take n page) → HasValue outcome value
     → length (outcome_text outcome value) ≤ most_text → 3007 ≤ waiting0.room → waiting ≡ with_text waiting0 (outcome_text outcome value)
     → Answers v durable command (is_taken outcome) waiting0 waiting w old new
-answers-event v w durable event command outcome page value waiting0 waiting old new is step goes rooted asked full limit front has short room told =
+answers-event v w durable event command outcome page value waiting0 waiting old new is step goes rooted asked full limit later past stat front has short room told =
     let same : outcome_text outcome value ≡ reply_text (reply_of outcome page) = same-text outcome page value front has in
     let len : length (outcome_text outcome value) ≡ length (reply_text (reply_of outcome page)) = ap length same in
     answers-reply v w durable command (write_of event) outcome (reply_of outcome page) waiting0 waiting old new
     (subst (λ (x : Option Command). IsStep (extents_of v) (state_of v durable) x (reply_of outcome page) (after_writes (state_of v durable) (accepted_as outcome (write_of event)))) is step)
-    (taken-event event command outcome page is) (ok-as outcome page) goes rooted (λ idle none. quiet-event event command outcome page (extents_of v) (state_of v durable) (after_writes (state_of v durable) (accepted_as outcome (write_of event))) old new is step none asked (λ n f same. full n f same idle) limit) (omega arith) (told ∙ ap (with_text waiting0) same)
+    (taken-event event command outcome page is) (ok-as outcome page) goes rooted (λ idle none. quiet-event event command outcome page (extents_of v) (state_of v durable) (after_writes (state_of v durable) (accepted_as outcome (write_of event))) old.state new.state is step none asked (λ n f same. full n f same idle) limit) (tells-some v old new outcome page later past stat) (omega arith) (told ∙ ap (with_text waiting0) same)
 
 -- a line was refused
-pub answers-bad : (v : StoreView) (durable : State) (kind : Bad) (waiting0 waiting : Waiting) (s : told.State) → IsOpen v durable s
+pub answers-bad : (v : StoreView) (durable : State) (kind : Bad) (waiting0 waiting : Waiting) (s : Moment) → IsOpen v durable s.state
     → length (text (replies.bad kind)) ≤ most_text → 3007 ≤ waiting0.room → waiting ≡ with_text waiting0 (text (replies.bad kind)) → Answers v durable (commands.bad kind) false waiting0 waiting v s s
 answers-bad v durable kind waiting0 waiting s opened short room told = record {
   reply = replies.bad kind;
   writes = [];
   runs = runs-one (extents_of v) (state_of v durable) (commands.bad kind) (replies.bad kind) [] (refl, no_writes (state_of v durable)) refl;
-  goes = goes-none v durable s opened;
-  rooted = rooted-none v durable s opened;
+  goes = goes-none v durable s.state opened;
+  rooted = rooted-none v durable s.state opened;
   quiet = λ idle none. refl;
+  stat = record { reads = omega arith; images = tt; past = λ first is. (first, is) };
   taken_is = refl;
   fits = omega arith;
   told = told;
@@ -194,14 +235,15 @@ answers-bad v durable kind waiting0 waiting s opened short room told = record {
 -- ---- and one that was not
 
 -- where the store is still up, the device is at rest
-pub lost-event : (v w : StoreView) (durable : State) (fault : WriteFault) (up : Bool) (old new : told.State) → Survives v [] durable old new → Leaves IsRooted old new
-    → (up ≡ true → Goes v [] w durable old new) → (up ≡ false → fault ≡ faults.Device) → ((b : ℕ) → fault ≡ faults.Damaged b → ⊥) → Lost v durable (round_fault_of fault) old new
-lost-event v w durable faults.Device up old new survives rooted goes down sound = record { lost = tt; survives = survives; rooted = rooted; rests = λ is. absurd (cc) }
-lost-event v w durable (faults.Damaged b) up old new survives rooted goes down sound = absurd (sound b refl)
-lost-event v w durable faults.NoMemory false old new survives rooted goes down sound = let never = down refl in absurd (cc)
-lost-event v w durable faults.NoMemory true old new survives rooted goes down sound = record {
+pub lost-event : (v w : StoreView) (durable : State) (fault : WriteFault) (up : Bool) (old new : Moment) → IsOpen v durable old.state → old.reads ≤ new.reads → Survives v [] durable old.state new.state → Leaves IsRooted old.state new.state
+    → (up ≡ true → Goes v [] w durable old.state new.state) → (up ≡ false → fault ≡ faults.Device) → ((b : ℕ) → fault ≡ faults.Damaged b → ⊥) → Lost v durable (round_fault_of fault) old new
+lost-event v w durable faults.Device up old new opened later survives rooted goes down sound = record { lost = tt; survives = survives; rooted = rooted; rests = λ is. absurd (cc); counts = counts-quiet durable old new opened.rest.image opened.rest.tells rooted later }
+lost-event v w durable (faults.Damaged b) up old new opened later survives rooted goes down sound = absurd (sound b refl)
+lost-event v w durable faults.NoMemory false old new opened later survives rooted goes down sound = let never = down refl in absurd (cc)
+lost-event v w durable faults.NoMemory true old new opened later survives rooted goes down sound = record {
   lost = tt;
   survives = survives;
   rooted = rooted;
-  rests = λ is. let g = goes refl in (g.sure, subst (λ xs. Rests (after_writes durable (take g.sure xs)) new) (append-nil v.log.pending) (open-rests w (after_writes durable (take g.sure (v.log.pending ++ []))) new g.opened));
+  rests = λ is. let g = goes refl in (g.sure, subst (λ xs. Rests (after_writes durable (take g.sure xs)) new.state) (append-nil v.log.pending) (open-rests w (after_writes durable (take g.sure (v.log.pending ++ []))) new.state g.opened));
+  counts = counts-quiet durable old new opened.rest.image opened.rest.tells rooted later;
 }

@@ -1,5 +1,6 @@
 pub mod ActLaws
 pub mod CallLaws
+pub mod CountLaws
 pub mod LineLaws
 pub mod OverLaws
 pub mod PieceLaws

@@ -21,8 +21,9 @@ use Rattle.lt_store.specs.Promise.{Rests}
 use Rattle.lt_store.proofs.GoLaws.{open-rests}
 use Rattle.lt_serve.specs.declared.served.Served.{Served}
 use Rattle.lt_serve.specs.declared.served.Served.TheVariants as served
-use Rattle.lt_serve.specs.Promise.{IsPause, IsInnerHalt, Runs, acknowledged, ShowsFirst, Over}
+use Rattle.lt_serve.specs.Promise.{IsPause, IsInnerHalt, Moment, Runs, acknowledged, ShowsFirst, Over}
 use Rattle.lt_serve.specs.Serving.{Reached}
+use Rattle.lt_serve.proofs.CountLaws.{counts-bad}
 use Rattle.lt_serve.proofs.RunLaws.{runs-more, runs-length, runs-counts, texts-append}
 use Rattle.lt_serve.proofs.ShownLaws.{acknowledged-append}
 
@@ -82,7 +83,7 @@ pub refused-some : (rest : List ℕ) → (rest ≡ [] → ⊥) → refused_rest 
 refused-some [] some = absurd (some refl)
 refused-some (b ∷ rest) some = refl
 
-module _ (e : ℕ) (before : State) (input output kept : List ℕ) (w : StoreView) (start now : told.State) (r : Reached e before input output kept w start now) where
+module _ (e : ℕ) (before : State) (input output kept : List ℕ) (w : StoreView) (start now : Moment) (r : Reached e before input output kept w start now) where
   -- every reply that is acknowledged tells of a durable write
   reached-sure : acknowledged r.replies (length output) ≤ length r.writes
   reached-sure =
@@ -97,8 +98,8 @@ module _ (e : ℕ) (before : State) (input output kept : List ℕ) (w : StoreVie
       (shows (length (lines_of front)) r.replies [] output [] (lines-answered e before input r.replies r.writes r.runs front behind is) (r.text ∙ sym (append-nil (texts r.replies))))
 
   -- the device is at rest with all writes
-  pub reached-rests : Rests (after_writes before r.writes) now
-  reached-rests = open-rests w (after_writes before r.writes) now r.opened
+  pub reached-rests : Rests (after_writes before r.writes) now.state
+  reached-rests = open-rests w (after_writes before r.writes) now.state r.opened
 
   -- between two lines
   pub over-paused : (status : Served) (faults0 faults : ℕ) → (status ≡ served.Done → ⊥) → Over e before status input output faults0 faults start now
@@ -117,10 +118,11 @@ module _ (e : ℕ) (before : State) (input output kept : List ℕ) (w : StoreVie
     whole = λ inner still. record { shown = r.replies; hidden = []; order = sym (append-nil r.replies); text = r.text; first = tt };
     since = r.since;
     rooted = r.rooted;
-    at_exit = open-has w before r.writes (acknowledged r.replies (length output)) now r.opened reached-sure;
-    rests = λ short. rests-whole before r.writes now reached-rests;
+    at_exit = open-has w before r.writes (acknowledged r.replies (length output)) now.state r.opened reached-sure;
+    rests = λ short. rests-whole before r.writes now.state reached-rests;
     rests_all = λ settled. reached-rests;
     quiet = λ settled. r.quiet;
+    counts = r.counts;
   }
 
   -- at the end of input, where no byte is left unfinished
@@ -140,10 +142,11 @@ module _ (e : ℕ) (before : State) (input output kept : List ℕ) (w : StoreVie
     whole = λ inner. absurd inner;
     since = r.since;
     rooted = r.rooted;
-    at_exit = open-has w before r.writes (acknowledged r.replies (length output)) now r.opened reached-sure;
-    rests = λ short. rests-whole before r.writes now reached-rests;
+    at_exit = open-has w before r.writes (acknowledged r.replies (length output)) now.state r.opened reached-sure;
+    rests = λ short. rests-whole before r.writes now.state reached-rests;
     rests_all = λ settled. reached-rests;
     quiet = λ settled. r.quiet;
+    counts = r.counts;
   }
 
   -- at the end of input, where the rest was refused, and this much of the refusal is shown
@@ -168,12 +171,13 @@ module _ (e : ℕ) (before : State) (input output kept : List ℕ) (w : StoreVie
         whole = λ i. absurd (inner i);
         since = r.since;
         rooted = r.rooted;
-        at_exit = open-has w before r.writes (acknowledged (r.replies ++ last) (length (output ++ added))) now r.opened
+        at_exit = open-has w before r.writes (acknowledged (r.replies ++ last) (length (output ++ added))) now.state r.opened
             (let a = acknowledged-append (r.replies ++ last) [] (length (output ++ added)) (omega (arith, ap length whole, length-append (output ++ added) behind)) in
             let b = runs-counts e before (commands input ++ bad End ∷ []) (r.replies ++ last) r.writes runs in
             let c : acknowledged ((r.replies ++ last) ++ []) (length (output ++ added)) ≡ acknowledged (r.replies ++ last) (length (output ++ added)) = ap (λ (rs : List Reply). acknowledged rs (length (output ++ added))) (append-nil (r.replies ++ last)) in
             omega arith);
-        rests = λ short. rests-whole before r.writes now reached-rests;
+        rests = λ short. rests-whole before r.writes now.state reached-rests;
         rests_all = λ settled. reached-rests;
         quiet = λ settled. r.quiet;
+        counts = counts-bad before r.replies End r.writes start now r.counts;
       }

@@ -8,7 +8,6 @@ use Rattle.lt_terms.specs.Causes.{Rose, HasCause}
 use Rattle.lt_terms.specs.Items.{Item}
 use Rattle.lt_page.specs.declared.errors.Failed.{Failed}
 use Rattle.lt_device.specs.Moments.{Leaves, MayLeave}
-use Rattle.lt_device.specs.State as told
 use Rattle.lt_io.specs.Streams.{Gains}
 use Rattle.lt_io.proofs.Flows.{Gains-none, Gains-more}
 use Rattle.lt_image.specs.Standing.{IsPrefix, after_writes}
@@ -28,21 +27,22 @@ use Rattle.lt_serve.specs.declared.faults.RoundFault.TheVariants as faults
 use Rattle.lt_serve.specs.declared.served.Served.{Served}
 use Rattle.lt_serve.specs.declared.served.Served.TheVariants as served
 use Rattle.lt_serve.specs.Faults.{IsLost, IsHalt, served_of}
-use Rattle.lt_serve.specs.Promise.{IsPause, IsInnerHalt, IsSettled, Runs, StartWithOk, acknowledged, Over, SteppedOver}
+use Rattle.lt_serve.specs.Promise.{IsPause, IsInnerHalt, IsSettled, Moment, Runs, StartWithOk, TellsCounts, acknowledged, Over, SteppedOver}
 use Rattle.lt_serve.specs.Rounds.{Round, Stopped}
 use Rattle.lt_serve.specs.Runs.{ok_count}
 use Rattle.lt_serve.specs.Sending.{Sends}
 use Rattle.lt_serve.specs.Serving.{Reached, SteppedOn}
+use Rattle.lt_serve.proofs.CountLaws.{counts-more}
 use Rattle.lt_serve.proofs.LineLaws.{commands-append, rest_of-append}
 use Rattle.lt_serve.proofs.OverLaws.{since-more, open-has, rests-later, shows, lines-answered}
 use Rattle.lt_serve.proofs.RoundLaws.{no-first, no-second, stopped-order}
-use Rattle.lt_serve.proofs.RunLaws.{runs-more, runs-counts, ok_count-append, texts-append}
+use Rattle.lt_serve.proofs.RunLaws.{runs-more, runs-counts, runs-oks, ok_count-append, texts-append}
 use Rattle.lt_serve.proofs.ShownLaws.{acknowledged-append}
 
 -- ---- one round
 
 -- Serving stopped within the bytes: the sink took a front of the text of the replies `shown`, all of it where its count did not rise and it is not the cause.
-pub record PieceStopped (e : ℕ) (durable : State) (bytes : List ℕ) (status : Served) (stands0 stands : List ℕ → Type 0) (faults0 faults : ℕ) (old new : told.State) : Type 0 where
+pub record PieceStopped (e : ℕ) (durable : State) (bytes : List ℕ) (status : Served) (stands0 stands : List ℕ → Type 0) (faults0 faults : ℕ) (old new : Moment) : Type 0 where
   pub acted : List Command
   pub others : List Command
   pub order : acted ++ others ≡ commands bytes
@@ -57,20 +57,21 @@ pub record PieceStopped (e : ℕ) (durable : State) (bytes : List ℕ) (status :
   pub gained : Gains stands0 stands output
   pub halt : IsHalt status
   pub whole : IsInnerHalt status → (Rose faults0 faults → ⊥) → behind ≡ []
-  pub since : Leaves (λ left. IsPrefix left durable writes 0) old new
+  pub since : Leaves (λ left. IsPrefix left durable writes 0) old.state new.state
   -- each image since names the root alone
-  pub rooted : Leaves IsRooted old new
-  pub at_exit : (left : Image) → MayLeave new left → IsPrefix left durable writes (ok_count shown)
-  pub rests : status ≡ served.NoMemory → (sure : ℕ) × Rests (after_writes durable (take sure writes)) new
-  pub rests_all : IsSettled status → Rests (after_writes durable writes) new
-  pub quiet : IsSettled status → writes ≡ [] → new ≡ old
+  pub rooted : Leaves IsRooted old.state new.state
+  pub at_exit : (left : Image) → MayLeave new.state left → IsPrefix left durable writes (ok_count shown)
+  pub rests : status ≡ served.NoMemory → (sure : ℕ) × Rests (after_writes durable (take sure writes)) new.state
+  pub rests_all : IsSettled status → Rests (after_writes durable writes) new.state
+  pub quiet : IsSettled status → writes ≡ [] → new.state ≡ old.state
+  pub counts : TellsCounts durable (shown ++ hidden) writes old new
 
 -- the settled text of a round is that of its replies
-told-text : (e : ℕ) (s : State) (bytes kept : List ℕ) (waiting : Waiting) (w : StoreView) (old new : told.State) (p : Round e s bytes kept nothing_waits waiting w old new) → waiting.settled_text ≡ texts p.replies
+told-text : (e : ℕ) (s : State) (bytes kept : List ℕ) (waiting : Waiting) (w : StoreView) (old new : Moment) (p : Round e s bytes kept nothing_waits waiting w old new) → waiting.settled_text ≡ texts p.replies
 told-text e s bytes kept waiting w old new p = ap (λ (x : Waiting). x.settled_text) p.told
 
 -- all of it was acted, and the sink failed
-pub piece-untold : (e : ℕ) (s : State) (bytes more kept : List ℕ) (waiting0 waiting unsent : Waiting) (w : StoreView) (count : ℕ) (stands0 stands : List ℕ → Type 0) (faults0 faults : ℕ) (old new : told.State) → waiting0 ≡ nothing_waits → Round e s bytes kept waiting0 waiting w old new → Sends count stands0 stands waiting unsent → PieceStopped e s (bytes ++ more) served.Sink stands0 stands faults0 faults old new
+pub piece-untold : (e : ℕ) (s : State) (bytes more kept : List ℕ) (waiting0 waiting unsent : Waiting) (w : StoreView) (count : ℕ) (stands0 stands : List ℕ → Type 0) (faults0 faults : ℕ) (old new : Moment) → waiting0 ≡ nothing_waits → Round e s bytes kept waiting0 waiting w old new → Sends count stands0 stands waiting unsent → PieceStopped e s (bytes ++ more) served.Sink stands0 stands faults0 faults old new
 piece-untold e s bytes more kept waiting0 waiting unsent w count stands0 stands faults0 faults old new none round sends =
     let p : Round e s bytes kept nothing_waits waiting w old new = subst (λ (x : Waiting). Round e s bytes kept x waiting w old new) none round in
     record {
@@ -90,10 +91,11 @@ piece-untold e s bytes more kept waiting0 waiting unsent w count stands0 stands 
       whole = λ inner. absurd inner;
       since = p.since;
       rooted = p.rooted;
-      at_exit = open-has w s p.writes (ok_count p.replies) new p.opened (runs-counts e s (commands bytes) p.replies p.writes p.runs);
+      at_exit = open-has w s p.writes (ok_count p.replies) new.state p.opened (runs-counts e s (commands bytes) p.replies p.writes p.runs);
       rests = λ short. absurd (cc (short));
-      rests_all = λ settled. open-rests w (after_writes s p.writes) new p.opened;
+      rests_all = λ settled. open-rests w (after_writes s p.writes) new.state p.opened;
       quiet = λ settled. p.quiet;
+      counts = subst (λ (rs : List Reply). TellsCounts s rs p.writes old new) (sym (append-nil p.replies)) p.counts;
     }
 
 -- what the sink took of some text, all of it where its count did not rise
@@ -139,7 +141,7 @@ was-short (faults.Damaged block) same = absurd (cc (same))
 was-short faults.NoMemory same = refl
 
 -- the round failed
-pub piece-stopped : (e : ℕ) (s : State) (bytes : List ℕ) (held : HeldLine) (fault : RoundFault) (waiting0 waiting unsent : Waiting) (stands0 stands : List ℕ → Type 0) (faults0 faults : ℕ) (old new : told.State) (result : Result (Unit {0}) Failed) → waiting0.settled_text ≡ [] → Stopped e s bytes held fault waiting0 waiting.settled_text old new
+pub piece-stopped : (e : ℕ) (s : State) (bytes : List ℕ) (held : HeldLine) (fault : RoundFault) (waiting0 waiting unsent : Waiting) (stands0 stands : List ℕ → Type 0) (faults0 faults : ℕ) (old new : Moment) (result : Result (Unit {0}) Failed) → waiting0.settled_text ≡ [] → Stopped e s bytes held fault waiting0 waiting.settled_text old new
     → OnOk result (Sends (length waiting.settled_text) stands0 stands waiting unsent) → OnErr result ((count : ℕ) × Sends count stands0 stands waiting unsent) → HasCause faults0 faults result → PieceStopped e s bytes (served_of fault) stands0 stands faults0 faults old new
 piece-stopped e s bytes held fault waiting0 waiting unsent stands0 stands faults0 faults old new result none p all front cause =
     let t = told-of result stands0 stands faults0 faults waiting unsent all front cause in
@@ -165,6 +167,7 @@ piece-stopped e s bytes held fault waiting0 waiting unsent stands0 stands faults
       rests = λ short. p.rests (was-short fault short);
       rests_all = λ settled. absurd (not-settled fault settled);
       quiet = λ settled. absurd (not-settled fault settled);
+      counts = p.counts;
     }
 
 -- ---- behind what was reached
@@ -190,23 +193,24 @@ not-pause (served.Damaged block) halt pause = halt
 not-pause served.NoMemory halt pause = pause
 not-pause served.Turns halt pause = halt
 
-module _ (e : ℕ) (before : State) (input output kept : List ℕ) (w : StoreView) (start mid : told.State) (r : Reached e before input output kept w start mid) (piece : List ℕ) where
+module _ (e : ℕ) (before : State) (input output kept : List ℕ) (w : StoreView) (start mid : Moment) (r : Reached e before input output kept w start mid) (piece : List ℕ) where
   -- it was acted
-  reached-more : (kept' : List ℕ) (waiting0 waiting : Waiting) (x : StoreView) (new : told.State) (p : Round e (after_writes before r.writes) (rest_of input ++ piece) kept' waiting0 waiting x mid new) → Reached e before (input ++ piece) (output ++ texts p.replies) kept' x start new
+  reached-more : (kept' : List ℕ) (waiting0 waiting : Waiting) (x : StoreView) (new : Moment) (p : Round e (after_writes before r.writes) (rest_of input ++ piece) kept' waiting0 waiting x mid new) → Reached e before (input ++ piece) (output ++ texts p.replies) kept' x start new
   reached-more kept' waiting0 waiting x new p = record {
     replies = r.replies ++ p.replies;
     writes = r.writes ++ p.writes;
     runs = subst (λ (cs : List Command). Runs e before cs (r.replies ++ p.replies) (r.writes ++ p.writes)) (sym (commands-append input piece)) (runs-more e before (commands input) (commands (rest_of input ++ piece)) r.replies p.replies r.writes p.writes r.runs p.runs);
     text = ap (λ xs. xs ++ texts p.replies) r.text ∙ sym (texts-append r.replies p.replies);
     line = p.line ∙ ap kept_of (sym (rest_of-append input piece));
-    opened = let joined : after_writes (after_writes before r.writes) p.writes ≡ after_writes before (r.writes ++ p.writes) = writes-joined before r.writes p.writes in subst (λ (t : State). IsOpen x t new) joined p.opened;
-    since = since-more before r.writes p.writes start mid new r.since p.since;
-    rooted = rooted-joins start mid new p.rooted r.rooted;
+    opened = let joined : after_writes (after_writes before r.writes) p.writes ≡ after_writes before (r.writes ++ p.writes) = writes-joined before r.writes p.writes in subst (λ (t : State). IsOpen x t new.state) joined p.opened;
+    since = since-more before r.writes p.writes start.state mid.state new.state r.since p.since;
+    rooted = rooted-joins start.state mid.state new.state p.rooted r.rooted;
     quiet = λ none. p.quiet (no-second r.writes p.writes none) ∙ r.quiet (no-first r.writes p.writes none);
+    counts = counts-more before r.replies p.replies r.writes p.writes start mid new r.rooted p.rooted (runs-oks e before (commands input) r.replies r.writes r.runs) r.counts p.counts;
   }
 
   -- and all of it was told
-  pub stepped-on : (kept' : List ℕ) (waiting0 waiting unsent : Waiting) (x : StoreView) (stands0 stands : List ℕ → Type 0) (new : told.State) → waiting0 ≡ nothing_waits → Round e (after_writes before r.writes) (rest_of input ++ piece) kept' waiting0 waiting x mid new → Sends (length waiting.settled_text) stands0 stands waiting unsent → SteppedOn e before (input ++ piece) output kept' x stands0 stands start new
+  pub stepped-on : (kept' : List ℕ) (waiting0 waiting unsent : Waiting) (x : StoreView) (stands0 stands : List ℕ → Type 0) (new : Moment) → waiting0 ≡ nothing_waits → Round e (after_writes before r.writes) (rest_of input ++ piece) kept' waiting0 waiting x mid new → Sends (length waiting.settled_text) stands0 stands waiting unsent → SteppedOn e before (input ++ piece) output kept' x stands0 stands start new
   stepped-on kept' waiting0 waiting unsent x stands0 stands new none round sends =
       let p : Round e (after_writes before r.writes) (rest_of input ++ piece) kept' nothing_waits waiting x mid new = subst (λ (y : Waiting). Round e (after_writes before r.writes) (rest_of input ++ piece) kept' y waiting x mid new) none round in
       record {
@@ -216,7 +220,7 @@ module _ (e : ℕ) (before : State) (input output kept : List ℕ) (w : StoreVie
       }
 
   -- serving stopped in it
-  over-piece : (status : Served) (stands0 stands : List ℕ → Type 0) (faults0 faults : ℕ) (new : told.State) → length piece ≤ 4096 → (p : PieceStopped e (after_writes before r.writes) (rest_of input ++ piece) status stands0 stands faults0 faults mid new) → Over e before status (input ++ piece) (output ++ p.output) faults0 faults start new
+  over-piece : (status : Served) (stands0 stands : List ℕ → Type 0) (faults0 faults : ℕ) (new : Moment) → length piece ≤ 4096 → (p : PieceStopped e (after_writes before r.writes) (rest_of input ++ piece) status stands0 stands faults0 faults mid new) → Over e before status (input ++ piece) (output ++ p.output) faults0 faults start new
   over-piece status stands0 stands faults0 faults new short p =
       let later : List Command = refused_rest (rest_of (input ++ piece)) in
       let told : List Reply = r.replies ++ p.shown in
@@ -245,8 +249,9 @@ module _ (e : ℕ) (before : State) (input output kept : List ℕ) (w : StoreVie
               text = sym (text_told ∙ ap (λ xs. (output ++ p.output) ++ xs) none ∙ append-nil (output ++ p.output));
               first = p.first;
             };
-        since = since-more before r.writes p.writes start mid new r.since p.since;
-        rooted = rooted-joins start mid new p.rooted r.rooted;
+        since = since-more before r.writes p.writes start.state mid.state new.state r.since p.since;
+        rooted = rooted-joins start.state mid.state new.state p.rooted r.rooted;
+        counts = counts-more before r.replies (p.shown ++ p.hidden) r.writes p.writes start mid new r.rooted p.rooted (runs-oks e before (commands input) r.replies r.writes r.runs) r.counts p.counts;
         at_exit = λ left may.
             let n : length (output ++ p.output) ≤ length (texts told) = omega (arith, ap length text_told, length-append (output ++ p.output) p.behind) in
             let a = acknowledged-append told p.hidden (length (output ++ p.output)) n in
@@ -255,19 +260,19 @@ module _ (e : ℕ) (before : State) (input output kept : List ℕ) (w : StoreVie
             let d : acknowledged (r.replies ++ (p.shown ++ p.hidden)) (length (output ++ p.output)) ≡ acknowledged (told ++ p.hidden) (length (output ++ p.output)) = ap (λ (rs : List Reply). acknowledged rs (length (output ++ p.output))) regroup in
             prefix-fewer left before (r.writes ++ p.writes) (acknowledged (r.replies ++ (p.shown ++ p.hidden)) (length (output ++ p.output))) (length r.writes + ok_count p.shown) (omega arith)
             (prefix-later left before r.writes p.writes (ok_count p.shown) (p.at_exit left may));
-        rests = λ none. rests-later before r.writes p.writes new (p.rests none);
-        rests_all = λ settled. let joined : after_writes (after_writes before r.writes) p.writes ≡ after_writes before (r.writes ++ p.writes) = writes-joined before r.writes p.writes in subst (λ (t : State). Rests t new) joined (p.rests_all settled);
+        rests = λ none. rests-later before r.writes p.writes new.state (p.rests none);
+        rests_all = λ settled. let joined : after_writes (after_writes before r.writes) p.writes ≡ after_writes before (r.writes ++ p.writes) = writes-joined before r.writes p.writes in subst (λ (t : State). Rests t new.state) joined (p.rests_all settled);
         quiet = λ settled none. p.quiet settled (no-second r.writes p.writes none) ∙ r.quiet (no-first r.writes p.writes none);
       }
 
   -- and some of it was told
-  pub stepped-over : (status : Served) (stands0 stands : List ℕ → Type 0) (faults0 faults : ℕ) (new : told.State) → length piece ≤ 4096 → PieceStopped e (after_writes before r.writes) (rest_of input ++ piece) status stands0 stands faults0 faults mid new → IsHalt status × SteppedOver e before status (input ++ piece) output stands0 stands faults0 faults start new
+  pub stepped-over : (status : Served) (stands0 stands : List ℕ → Type 0) (faults0 faults : ℕ) (new : Moment) → length piece ≤ 4096 → PieceStopped e (after_writes before r.writes) (rest_of input ++ piece) status stands0 stands faults0 faults mid new → IsHalt status × SteppedOver e before status (input ++ piece) output stands0 stands faults0 faults start new
   stepped-over status stands0 stands faults0 faults new short p = (p.halt, record { added = p.output; gained = p.gained; over = over-piece status stands0 stands faults0 faults new short p })
 
 -- ---- one call behind another
 
 -- counted from earlier
-over-earlier : (e : ℕ) (before : State) (status : Served) (input output : List ℕ) (first faults0 faults : ℕ) (start new : told.State) → first ≤ faults0 → Over e before status input output faults0 faults start new → Over e before status input output first faults start new
+over-earlier : (e : ℕ) (before : State) (status : Served) (input output : List ℕ) (first faults0 faults : ℕ) (start new : Moment) → first ≤ faults0 → Over e before status input output faults0 faults start new → Over e before status input output first faults start new
 over-earlier e before status input output first faults0 faults start new le o = record {
   acted = o.acted;
   others = o.others;
@@ -287,19 +292,20 @@ over-earlier e before status input output first faults0 faults start new le o = 
   rests = o.rests;
   rests_all = o.rests_all;
   quiet = o.quiet;
+  counts = o.counts;
 }
 
 -- nothing was stepped yet
-pub on-none : (e : ℕ) (before : State) (input output kept : List ℕ) (w : StoreView) (stands : List ℕ → Type 0) (start now : told.State) → Reached e before input output kept w start now → SteppedOn e before input output kept w stands stands start now
+pub on-none : (e : ℕ) (before : State) (input output kept : List ℕ) (w : StoreView) (stands : List ℕ → Type 0) (start now : Moment) → Reached e before input output kept w start now → SteppedOn e before input output kept w stands stands start now
 on-none e before input output kept w stands start now r = record {
   added = [];
   gained = Gains-none stands;
   reached = subst (λ (xs : List ℕ). Reached e before input xs kept w start now) (sym (append-nil output)) r;
 }
 
-module _ (e : ℕ) (before : State) (input output kept : List ℕ) (w : StoreView) (stands0 stands1 : List ℕ → Type 0) (start mid : told.State) (s : SteppedOn e before input output kept w stands0 stands1 start mid) where
+module _ (e : ℕ) (before : State) (input output kept : List ℕ) (w : StoreView) (stands0 stands1 : List ℕ → Type 0) (start mid : Moment) (s : SteppedOn e before input output kept w stands0 stands1 start mid) where
   -- serving is over in a call more
-  pub over-over : (status : Served) (input' : List ℕ) (stands : List ℕ → Type 0) (first faults0 faults : ℕ) (new : told.State) → first ≤ faults0 → SteppedOver e before status input' (output ++ s.added) stands1 stands faults0 faults start new → SteppedOver e before status input' output stands0 stands first faults start new
+  pub over-over : (status : Served) (input' : List ℕ) (stands : List ℕ → Type 0) (first faults0 faults : ℕ) (new : Moment) → first ≤ faults0 → SteppedOver e before status input' (output ++ s.added) stands1 stands faults0 faults start new → SteppedOver e before status input' output stands0 stands first faults start new
   over-over status input' stands first faults0 faults new le u = record {
     added = s.added ++ u.added;
     gained = Gains-more stands0 stands1 stands s.added u.added s.gained u.gained;
@@ -308,7 +314,7 @@ module _ (e : ℕ) (before : State) (input output kept : List ℕ) (w : StoreVie
 
   module _ (f : ℕ) (same : f ≡ e) where
     -- a call of a store with as many extents goes on
-    pub on-on : (input' kept' : List ℕ) (x : StoreView) (stands : List ℕ → Type 0) (new : told.State) → (Reached f before input (output ++ s.added) kept w start mid → SteppedOn f before input' (output ++ s.added) kept' x stands1 stands start new) → SteppedOn e before input' output kept' x stands0 stands start new
+    pub on-on : (input' kept' : List ℕ) (x : StoreView) (stands : List ℕ → Type 0) (new : Moment) → (Reached f before input (output ++ s.added) kept w start mid → SteppedOn f before input' (output ++ s.added) kept' x stands1 stands start new) → SteppedOn e before input' output kept' x stands0 stands start new
     on-on input' kept' x stands new call =
         let u : SteppedOn e before input' (output ++ s.added) kept' x stands1 stands start new = subst (λ (n : ℕ). SteppedOn n before input' (output ++ s.added) kept' x stands1 stands start new) same (call (subst (λ (n : ℕ). Reached n before input (output ++ s.added) kept w start mid) (sym same) s.reached)) in
         record {
@@ -318,7 +324,7 @@ module _ (e : ℕ) (before : State) (input output kept : List ℕ) (w : StoreVie
         }
 
     -- or serving is over in it
-    pub on-over : (status : Served) (input' : List ℕ) (stands : List ℕ → Type 0) (first faults0 faults : ℕ) (new : told.State) → first ≤ faults0 → (Reached f before input (output ++ s.added) kept w start mid → IsHalt status × SteppedOver f before status input' (output ++ s.added) stands1 stands faults0 faults start new) → IsHalt status × SteppedOver e before status input' output stands0 stands first faults start new
+    pub on-over : (status : Served) (input' : List ℕ) (stands : List ℕ → Type 0) (first faults0 faults : ℕ) (new : Moment) → first ≤ faults0 → (Reached f before input (output ++ s.added) kept w start mid → IsHalt status × SteppedOver f before status input' (output ++ s.added) stands1 stands faults0 faults start new) → IsHalt status × SteppedOver e before status input' output stands0 stands first faults start new
     on-over status input' stands first faults0 faults new le call =
         let both = call (subst (λ (n : ℕ). Reached n before input (output ++ s.added) kept w start mid) (sym same) s.reached) in
         (both.0, over-over status input' stands first faults0 faults new le (subst (λ (n : ℕ). SteppedOver n before status input' (output ++ s.added) stands1 stands faults0 faults start new) same both.1))

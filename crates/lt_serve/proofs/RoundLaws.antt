@@ -1,12 +1,12 @@
 -- A round goes on by a part of a line, by a line, and by a commit; and it fails.
-use Rattle.std.proofs.Common.{◌≡◌, ◌≢◌, ℕ, ◌+◌, ◌-◌, ◌<◌, zero, suc, refl, sym, ap, subst, ◌∙◌, List, [], ◌∷◌, ◌++◌, map, take, drop, length, length-append, append_assoc, append-nil, take-add, take-append-drop, Bool, true, false, ◌||◌, cond, inl, inr, arith}
+use Rattle.std.proofs.Common.{◌≡◌, ◌≢◌, ℕ, ◌+◌, ◌-◌, ◌<◌, ◌≤◌, zero, suc, refl, sym, ap, subst, ◌∙◌, List, [], ◌∷◌, ◌++◌, map, take, drop, length, length-append, length-drop, append_assoc, append-nil, take-add, take-append-drop, Bool, true, false, ◌||◌, cond, inl, inr, arith}
 use Rattle.std.specs.Bool.{IsFalse}
 use Rattle.std.proofs.lemmas.Bool.{cases_Bool, false≢true}
 use Rattle.std.proofs.lemmas.List.{map-append}
 use Rattle.lt_terms.specs.Items.{Item}
 use Rattle.lt_device.specs.Moments.{Leaves}
 use Rattle.lt_device.specs.State as told
-use Rattle.lt_image.specs.Standing.{IsPrefix, after_writes}
+use Rattle.lt_image.specs.Standing.{IsPrefix, Stands, after_writes}
 use Rattle.lt_image.proofs.KeptLaws.{no_writes, writes-joined}
 use Rattle.lt_language.specs.Commands.{Command, command_of, commands, line_feed, has_line_feed, lines_of, rest_of}
 use Rattle.lt_language.specs.Machine.{State}
@@ -25,9 +25,10 @@ use Rattle.lt_serve.specs.declared.faults.RoundFault.TheVariants as faults
 use Rattle.lt_serve.specs.Acting.{Answered, Answers, Lost, settled_unless}
 use Rattle.lt_serve.specs.Rounds.{AtCommit, AtLine, Round, Stopped, Went, all_text}
 use Rattle.lt_serve.specs.Runs.{ok_count}
-use Rattle.lt_serve.specs.Promise.{Runs, StartWithOk, is_ok}
+use Rattle.lt_serve.specs.Promise.{Moment, Runs, StartWithOk, TellsCounts, is_ok}
+use Rattle.lt_serve.proofs.CountLaws.{counts-line, counts-none, counts-quiet, counts-still}
 use Rattle.lt_serve.proofs.LineLaws.{commands-append, commands-unbroken, commands-ended, lines-ended, rest_of-unbroken, rest_of-ended}
-use Rattle.lt_serve.proofs.RunLaws.{ok_count-append, ok_count-cons, runs-more, runs-none, texts-append}
+use Rattle.lt_serve.proofs.RunLaws.{ok_count-append, ok_count-cons, runs-more, runs-none, runs-oks, texts-append}
 
 -- ---- replies that wait
 
@@ -86,7 +87,7 @@ still-idle v w durable writes old new goes idle none = goes.pending ∙ ap (λ x
 -- ---- acting goes on
 
 -- nothing was taken yet
-pub went-none : (v : StoreView) (durable : State) (rest kept : List ℕ) (waiting : Waiting) (s : told.State) → IsOpen v durable s → IsFalse (has_line_feed rest) → kept ≡ kept_of rest → waiting.pending_text ≡ [] → Went v durable rest kept false waiting waiting v s s
+pub went-none : (v : StoreView) (durable : State) (rest kept : List ℕ) (waiting : Waiting) (s : Moment) → IsOpen v durable s.state → IsFalse (has_line_feed rest) → kept ≡ kept_of rest → waiting.pending_text ≡ [] → Went v durable rest kept false waiting waiting v s s
 went-none v durable rest kept waiting s opened free line none = record {
   shown = [];
   hidden = [];
@@ -100,13 +101,14 @@ went-none v durable rest kept waiting s opened free line none = record {
   first = tt;
   none = λ is. refl;
   some = λ is. absurd (false≢true is);
-  goes = goes-none v durable s opened;
-  rooted = rooted-none v durable s opened;
+  goes = goes-none v durable s.state opened;
+  rooted = rooted-none v durable s.state opened;
   quiet = λ idle none. refl;
+  counts = λ idle. counts-none durable s s refl (omega arith);
 }
 
 -- the unfinished line goes on
-pub went-on : (v : StoreView) (durable : State) (bytes chunk kept kept' : List ℕ) (wrote : Bool) (waiting0 waiting : Waiting) (w : StoreView) (old new : told.State) → Went v durable bytes kept wrote waiting0 waiting w old new
+pub went-on : (v : StoreView) (durable : State) (bytes chunk kept kept' : List ℕ) (wrote : Bool) (waiting0 waiting : Waiting) (w : StoreView) (old new : Moment) → Went v durable bytes kept wrote waiting0 waiting w old new
     → IsFalse (has_line_feed chunk) → kept' ≡ kept_of (kept ++ chunk) → Went v durable (bytes ++ chunk) kept' wrote waiting0 waiting w old new
 went-on v durable bytes chunk kept kept' wrote waiting0 waiting w old new went free more = record {
   shown = went.shown;
@@ -124,15 +126,16 @@ went-on v durable bytes chunk kept kept' wrote waiting0 waiting w old new went f
   goes = went.goes;
   rooted = went.rooted;
   quiet = went.quiet;
+  counts = went.counts;
 }
 
 -- what is kept of the line that ends here
-pub kept-line : (v : StoreView) (durable : State) (bytes chunk kept kept' : List ℕ) (wrote : Bool) (waiting0 waiting : Waiting) (w : StoreView) (old new : told.State) → Went v durable bytes kept wrote waiting0 waiting w old new
+pub kept-line : (v : StoreView) (durable : State) (bytes chunk kept kept' : List ℕ) (wrote : Bool) (waiting0 waiting : Waiting) (w : StoreView) (old new : Moment) → Went v durable bytes kept wrote waiting0 waiting w old new
     → kept' ≡ kept_of (kept ++ chunk) → kept' ≡ kept_of (rest_of bytes ++ chunk)
 kept-line v durable bytes chunk kept kept' wrote waiting0 waiting w old new went more = more ∙ ap (λ k. kept_of (k ++ chunk)) went.line ∙ kept_of-append (rest_of bytes) chunk
 
-module _ (v : StoreView) (durable : State) (bytes chunk kept : List ℕ) (wrote0 : Bool) (waiting0 waiting : Waiting) (w : StoreView) (old mid : told.State) (went : Went v durable bytes kept wrote0 waiting0 waiting w old mid)
-    (free : IsFalse (has_line_feed chunk)) (waiting' : Waiting) (x : StoreView) (new : told.State) where
+module _ (v : StoreView) (durable : State) (bytes chunk kept : List ℕ) (wrote0 : Bool) (waiting0 waiting : Waiting) (w : StoreView) (old mid : Moment) (went : Went v durable bytes kept wrote0 waiting0 waiting w old mid)
+    (opened : IsOpen v durable old.state) (free : IsFalse (has_line_feed chunk)) (waiting' : Waiting) (x : StoreView) (new : Moment) where
   now : State
   now = after_writes durable (take went.goes.sure (v.log.pending ++ went.writes))
 
@@ -148,21 +151,37 @@ module _ (v : StoreView) (durable : State) (bytes chunk kept : List ℕ) (wrote0
       let command : Command = command_of (rest_of bytes ++ chunk) in
       let here : Runs (extents_of v) (after_writes (state_of v durable) went.writes) (command ∷ []) (a.reply ∷ []) a.writes =
       subst (λ e. Runs e (after_writes (state_of v durable) went.writes) (command ∷ []) (a.reply ∷ []) a.writes) same
-      (subst (λ s. Runs (extents_of w) s (command ∷ []) (a.reply ∷ []) a.writes) (goes-state v w went.writes durable old mid went.goes) a.runs) in
+      (subst (λ s. Runs (extents_of w) s (command ∷ []) (a.reply ∷ []) a.writes) (goes-state v w went.writes durable old.state mid.state went.goes) a.runs) in
       subst (λ (cs : List Command). Runs (extents_of v) (state_of v durable) cs ((went.shown ++ went.hidden) ++ a.reply ∷ []) (went.writes ++ a.writes)) (sym (commands-ended bytes chunk free))
       (runs-more (extents_of v) (state_of v durable) (commands bytes) (command ∷ []) (went.shown ++ went.hidden) (a.reply ∷ []) went.writes a.writes went.runs here)
 
-  goes-further : (wrote : Bool) (a : Line wrote) → Goes v (went.writes ++ a.writes) x durable old new
+  goes-further : (wrote : Bool) (a : Line wrote) → Goes v (went.writes ++ a.writes) x durable old.state new.state
   unfolding now
-  goes-further wrote a = goes-behind v w went.writes durable old mid went.goes x a.writes new a.goes
+  goes-further wrote a = goes-behind v w went.writes durable old.state mid.state went.goes x a.writes new.state a.goes
 
-  rooted-further : (wrote : Bool) → Line wrote → Leaves IsRooted old new
-  rooted-further wrote a = rooted-joins old mid new a.rooted went.rooted
+  rooted-further : (wrote : Bool) → Line wrote → Leaves IsRooted old.state new.state
+  rooted-further wrote a = rooted-joins old.state mid.state new.state a.rooted went.rooted
 
-  quiet-further : (wrote : Bool) (a : Line wrote) → v.log.pending ≡ [] → went.writes ++ a.writes ≡ [] → new ≡ old
+  quiet-further : (wrote : Bool) (a : Line wrote) → v.log.pending ≡ [] → went.writes ++ a.writes ≡ [] → new.state ≡ old.state
   quiet-further wrote a idle none =
       let first : went.writes ≡ [] = no-first went.writes a.writes none in
-      a.quiet (still-idle v w durable went.writes old mid went.goes idle first) (no-second went.writes a.writes none) ∙ went.quiet idle first
+      a.quiet (still-idle v w durable went.writes old.state mid.state went.goes idle first) (no-second went.writes a.writes none) ∙ went.quiet idle first
+
+  counts-further : (wrote : Bool) (a : Line wrote) → v.log.pending ≡ [] → TellsCounts durable ((went.shown ++ went.hidden) ++ a.reply ∷ []) (went.writes ++ a.writes) old new
+  unfolding now
+  counts-further wrote a idle =
+      let g = went.goes in
+      let all : v.log.pending ++ went.writes ≡ went.writes = ap (λ xs. xs ++ went.writes) idle in
+      let at_most : g.sure ≤ length went.writes = omega (arith, g.within, ap length all) in
+      let behind : length w.log.pending ≡ length went.writes - g.sure = ap length g.pending ∙ length-drop g.sure (v.log.pending ++ went.writes) ∙ ap (λ (xs : List Item). length xs - g.sure) all in
+      counts-line durable (went.shown ++ went.hidden) went.writes a.writes a.reply old mid new went.rooted a.rooted (runs-oks (extents_of v) (state_of v durable) (commands bytes) (went.shown ++ went.hidden) went.writes went.runs) (went.counts idle)
+      w.log.pending a.stat.reads a.stat.images a.stat.past g.opened.rest.image g.opened.rest.tells
+      (λ few. record {
+        count = g.sure;
+        at_least = omega (arith, few, behind);
+        at_most = at_most;
+        stands = subst (λ ws. Stands g.opened.rest.image (after_writes durable (take g.sure ws))) all (g.opened.rest.each g.opened.rest.image g.opened.rest.tells);
+      })
 
   line-further : [] ≡ kept_of (rest_of (bytes ++ (chunk ++ line_feed ∷ [])))
   line-further = sym kept_of-none ∙ ap kept_of (sym (rest_of-ended bytes chunk free))
@@ -175,13 +194,15 @@ module _ (v : StoreView) (durable : State) (bytes chunk kept : List ℕ) (wrote0
       let room : waiting'.room ≡ waiting.room - length (text a.reply) = ap (λ (t : Waiting). t.room) a.told in
       let hidden0 : length (texts went.hidden) ≡ 0 = ap (λ rs. length (texts rs)) none in
       let count : ok_count (went.shown ++ a.reply ∷ []) ≡ ok_count went.shown + ok_count (a.reply ∷ []) = ok_count-append went.shown (a.reply ∷ []) in
+      let shown_are : (went.shown ++ went.hidden) ++ a.reply ∷ [] ≡ (went.shown ++ a.reply ∷ []) ++ [] =
+      ap (λ rs. (went.shown ++ rs) ++ a.reply ∷ []) none ∙ ap (λ rs. rs ++ a.reply ∷ []) (append-nil went.shown) ∙ sym (append-nil (went.shown ++ a.reply ∷ [])) in
       let one : ok_count (a.reply ∷ []) ≡ 0 = ok_count-cons a.reply [] ∙ ap (λ b. cond {A = ℕ} b 1 0 + ok_count []) not in
       record {
         shown = went.shown ++ a.reply ∷ [];
         hidden = [];
         writes = went.writes ++ a.writes;
         runs = subst (λ rs. Runs (extents_of v) (state_of v durable) (commands (bytes ++ (chunk ++ line_feed ∷ []))) rs (went.writes ++ a.writes))
-            (ap (λ rs. (went.shown ++ rs) ++ a.reply ∷ []) none ∙ ap (λ rs. rs ++ a.reply ∷ []) (append-nil went.shown) ∙ sym (append-nil (went.shown ++ a.reply ∷ []))) (runs-further false a same);
+            shown_are (runs-further false a same);
         line = line-further;
         settled = ap (λ (t : Waiting). t.settled_text) a.told ∙ ap (λ p. waiting.settled_text ++ (p ++ text a.reply)) more ∙ ap (λ s. s ++ text a.reply) went.settled
             ∙ append_assoc waiting0.settled_text (texts went.shown) (text a.reply) ∙ ap (λ t. waiting0.settled_text ++ t) (sym (texts-more went.shown a.reply));
@@ -194,6 +215,7 @@ module _ (v : StoreView) (durable : State) (bytes chunk kept : List ℕ) (wrote0
         goes = goes-further false a;
         rooted = rooted-further false a;
         quiet = quiet-further false a;
+        counts = λ idle. subst (λ rs. TellsCounts durable rs (went.writes ++ a.writes) old new) shown_are (counts-further false a idle);
       }
 
   -- a write was taken, and the reply waits
@@ -216,6 +238,7 @@ module _ (v : StoreView) (durable : State) (bytes chunk kept : List ℕ) (wrote0
         goes = goes-further true a;
         rooted = rooted-further true a;
         quiet = quiet-further true a;
+        counts = λ idle. subst (λ rs. TellsCounts durable rs (went.writes ++ a.writes) old new) (append_assoc went.shown went.hidden (a.reply ∷ [])) (counts-further true a idle);
       }
 
   either : (wrote before : Bool) → before ≡ wrote0 → (a : Line wrote) → wrote ≡ (before || is_ok a.reply) → extents_of w ≡ extents_of v → Further wrote
@@ -231,18 +254,18 @@ module _ (v : StoreView) (durable : State) (bytes chunk kept : List ℕ) (wrote0
 
 -- ---- a commit, and a fault
 
-module _ (v : StoreView) (durable : State) (bytes kept : List ℕ) (wrote : Bool) (waiting0 waiting : Waiting) (w : StoreView) (old mid : told.State) (went : Went v durable bytes kept wrote waiting0 waiting w old mid) (nothing : v.log.pending ≡ []) where
+module _ (v : StoreView) (durable : State) (bytes kept : List ℕ) (wrote : Bool) (waiting0 waiting : Waiting) (w : StoreView) (old mid : Moment) (went : Went v durable bytes kept wrote waiting0 waiting w old mid) (nothing : v.log.pending ≡ []) where
   all_are : v.log.pending ++ went.writes ≡ went.writes
   all_are = ap (λ xs. xs ++ went.writes) nothing
 
   runs-durable : Runs (extents_of v) durable (commands bytes) (went.shown ++ went.hidden) went.writes
   runs-durable = subst (λ s. Runs (extents_of v) s (commands bytes) (went.shown ++ went.hidden) went.writes) (ap (after_writes durable) nothing ∙ no_writes durable) went.runs
 
-  rests-first : (n : ℕ) (new : told.State) → Rests (after_writes (after_writes durable (take went.goes.sure (v.log.pending ++ went.writes))) (take n w.log.pending)) new → Rests (after_writes durable (take (went.goes.sure + n) went.writes)) new
+  rests-first : (n : ℕ) (new : Moment) → Rests (after_writes (after_writes durable (take went.goes.sure (v.log.pending ++ went.writes))) (take n w.log.pending)) new.state → Rests (after_writes durable (take (went.goes.sure + n) went.writes)) new.state
   rests-first n new rests =
       let all : List Item = v.log.pending ++ went.writes in
       let first : List Item = take went.goes.sure all in
-      subst (λ s. Rests s new)
+      subst (λ s. Rests s new.state)
       (ap (λ xs. after_writes (after_writes durable first) (take n xs)) went.goes.pending ∙ writes-joined durable first (take n (drop went.goes.sure all))
       ∙ ap (after_writes durable) (sym (take-add went.goes.sure n all)) ∙ ap (λ xs. after_writes durable (take (went.goes.sure + n) xs)) all_are) rests
 
@@ -253,7 +276,7 @@ module _ (v : StoreView) (durable : State) (bytes kept : List ℕ) (wrote : Bool
   long = ap length joined ∙ length-append (texts went.shown) (texts went.hidden)
 
   -- what follows these bytes was not acted
-  stopped : (all settled : List ℕ) (held : HeldLine) (fault : RoundFault) (new : told.State) → Lost w (after_writes durable (take went.goes.sure (v.log.pending ++ went.writes))) fault mid new → settled ≡ waiting.settled_text
+  stopped : (all settled : List ℕ) (held : HeldLine) (fault : RoundFault) (new : Moment) → Lost w (after_writes durable (take went.goes.sure (v.log.pending ++ went.writes))) fault mid new → settled ≡ waiting.settled_text
       → (held.is_ended ≡ true → AtLine all held.kept (commands bytes)) → (held.is_ended ≡ false → AtCommit all held.kept (commands bytes) (waiting0.room - length (texts (went.shown ++ went.hidden))))
       → Stopped (extents_of v) durable all held fault waiting0 settled old new
   stopped all settled held fault new lost is at_line at_commit = record {
@@ -268,14 +291,15 @@ module _ (v : StoreView) (durable : State) (bytes kept : List ℕ) (wrote : Bool
     text = is ∙ went.settled;
     unwritten = went.unwritten;
     first = went.first;
-    since = subst (λ xs. Leaves (λ left. IsPrefix left durable xs 0) old new) all_are (breaks-behind v w went.writes durable old mid went.goes new lost.survives);
-    rooted = rooted-joins old mid new lost.rooted went.rooted;
+    since = subst (λ xs. Leaves (λ left. IsPrefix left durable xs 0) old.state new.state) all_are (breaks-behind v w went.writes durable old.state mid.state went.goes new.state lost.survives);
+    rooted = rooted-joins old.state mid.state new.state lost.rooted went.rooted;
+    counts = counts-still durable _ (went.shown ++ went.hidden) went.writes old mid new went.rooted lost.rooted (went.counts nothing) lost.counts;
     lost = lost.lost;
     rests = λ short. let r = lost.rests short in (went.goes.sure + r.0, rests-first r.0 new r.1);
   }
 
   -- the event of the line that ended failed
-  pub stopped-line : (chunk more settled : List ℕ) (held : HeldLine) (fault : RoundFault) (new : told.State) → Lost w (after_writes durable (take went.goes.sure (v.log.pending ++ went.writes))) fault mid new → settled ≡ waiting.settled_text
+  pub stopped-line : (chunk more settled : List ℕ) (held : HeldLine) (fault : RoundFault) (new : Moment) → Lost w (after_writes durable (take went.goes.sure (v.log.pending ++ went.writes))) fault mid new → settled ≡ waiting.settled_text
       → IsFalse (has_line_feed chunk) → held.is_ended ≡ true → held.kept ≡ kept_of (kept ++ chunk) → Stopped (extents_of v) durable (bytes ++ ((chunk ++ line_feed ∷ []) ++ more)) held fault waiting0 settled old new
   stopped-line chunk more settled held fault new lost is free ended kept_is = stopped (bytes ++ ((chunk ++ line_feed ∷ []) ++ more)) settled held fault new lost is
       (λ same. record {
@@ -289,7 +313,7 @@ module _ (v : StoreView) (durable : State) (bytes kept : List ℕ) (wrote : Bool
       (λ not. absurd (false≢true (sym not ∙ ended)))
 
   -- the commit failed
-  pub stopped-commit : (more settled : List ℕ) (held : HeldLine) (fault : RoundFault) (new : told.State) → Lost w (after_writes durable (take went.goes.sure (v.log.pending ++ went.writes))) fault mid new → settled ≡ waiting.settled_text
+  pub stopped-commit : (more settled : List ℕ) (held : HeldLine) (fault : RoundFault) (new : Moment) → Lost w (after_writes durable (take went.goes.sure (v.log.pending ++ went.writes))) fault mid new → settled ≡ waiting.settled_text
       → held.is_ended ≡ false → held.kept ≡ kept → (more ≢ [] → waiting.room < 3007) → Stopped (extents_of v) durable (bytes ++ more) held fault waiting0 settled old new
   stopped-commit more settled held fault new lost is open_line kept_is short = stopped (bytes ++ more) settled held fault new lost is
       (λ ended. absurd (false≢true (sym open_line ∙ ended)))
@@ -303,10 +327,10 @@ module _ (v : StoreView) (durable : State) (bytes kept : List ℕ) (wrote : Bool
       })
 
   -- all writes are durable, and the replies are settled
-  pub round-after : (x : StoreView) (new : told.State) → Goes w [] x (after_writes durable (take went.goes.sure (v.log.pending ++ went.writes))) mid new → Leaves IsRooted mid new → (w.log.pending ≡ [] → new ≡ mid) → x.log.pending ≡ []
+  pub round-after : (x : StoreView) (new : Moment) → Goes w [] x (after_writes durable (take went.goes.sure (v.log.pending ++ went.writes))) mid.state new.state → Leaves IsRooted mid.state new.state → (w.log.pending ≡ [] → new.state ≡ mid.state) → mid.reads ≤ new.reads → x.log.pending ≡ []
       → (first settled : Waiting) → waiting0 ≡ all_settled first → settled ≡ all_settled waiting → Round (extents_of v) durable bytes kept first settled x old new
-  round-after x new commit rooted idle none first settled begun is =
-      let g = goes-behind v w went.writes durable old mid went.goes x [] new commit in
+  round-after x new commit rooted idle later none first settled begun is =
+      let g = goes-behind v w went.writes durable old.state mid.state went.goes x [] new.state commit in
       let given : List Item = v.log.pending ++ (went.writes ++ []) in
       let given_are : given ≡ went.writes = ap (λ xs. v.log.pending ++ xs) (append-nil went.writes) ∙ all_are in
       let whole : take g.sure given ≡ went.writes = sym (append-nil (take g.sure given)) ∙ ap (λ xs. take g.sure given ++ xs) (sym none ∙ g.pending) ∙ take-append-drop g.sure given ∙ given_are in
@@ -322,10 +346,11 @@ module _ (v : StoreView) (durable : State) (bytes kept : List ℕ) (wrote : Bool
         line = went.line;
         fits = omega (arith, went.room, long, room0);
         told = is ∙ ap (λ t. record { settled_text = t; pending_text = []; room = waiting.room }) told ∙ ap (λ n. record { settled_text = all_text first ++ texts all; pending_text = []; room = n }) room;
-        opened = subst (λ xs. IsOpen x (after_writes durable xs) new) whole g.opened;
-        since = subst (λ xs. Leaves (λ left. IsPrefix left durable xs 0) old new) given_are g.survives;
-        rooted = rooted-joins old mid new rooted went.rooted;
-        quiet = λ unwritten. idle (still-idle v w durable went.writes old mid went.goes nothing unwritten) ∙ went.quiet nothing unwritten;
+        opened = subst (λ xs. IsOpen x (after_writes durable xs) new.state) whole g.opened;
+        since = subst (λ xs. Leaves (λ left. IsPrefix left durable xs 0) old.state new.state) given_are g.survives;
+        rooted = rooted-joins old.state mid.state new.state rooted went.rooted;
+        counts = counts-still durable durable all went.writes old mid new went.rooted rooted (went.counts nothing) (counts-quiet durable mid new went.goes.opened.rest.image went.goes.opened.rest.tells rooted later);
+        quiet = λ unwritten. idle (still-idle v w durable went.writes old.state mid.state went.goes nothing unwritten) ∙ went.quiet nothing unwritten;
       }
 
 -- the lines that were acted are the first of all
@@ -341,20 +366,20 @@ commit-order bytes kept acted left a = (
   ap (λ cs. cs ++ commands (rest_of a.taken ++ a.rest)) a.acted_are ∙ sym (commands-append a.taken a.rest) ∙ ap commands (sym a.split),
 )
 
-pub stopped-order : (e : ℕ) (durable : State) (bytes : List ℕ) (held : HeldLine) (fault : RoundFault) (waiting0 : Waiting) (settled : List ℕ) (old new : told.State) → (p : Stopped e durable bytes held fault waiting0 settled old new) → (others : List Command) × (p.acted ++ others ≡ commands bytes)
+pub stopped-order : (e : ℕ) (durable : State) (bytes : List ℕ) (held : HeldLine) (fault : RoundFault) (waiting0 : Waiting) (settled : List ℕ) (old new : Moment) → (p : Stopped e durable bytes held fault waiting0 settled old new) → (others : List Command) × (p.acted ++ others ≡ commands bytes)
 stopped-order e durable bytes held fault waiting0 settled old new p = elim (cases_Bool held.is_ended) [
   | inl ended ↦ line-order bytes held.kept p.acted (p.at_line ended)
   | inr open_line ↦ commit-order bytes held.kept p.acted (waiting0.room - length (texts (p.shown ++ p.hidden))) (p.at_commit open_line)
 ]
 
 -- a commit that failed
-pub lost-commit : (w : StoreView) (durable : State) (old new : told.State) → Survives w [] durable old new → Leaves IsRooted old new → Lost w durable faults.Device old new
-lost-commit w durable old new survives rooted = record { lost = tt; survives = survives; rooted = rooted; rests = λ is. absurd (cc) }
+pub lost-commit : (w : StoreView) (durable : State) (old new : Moment) → IsOpen w durable old.state → old.reads ≤ new.reads → Survives w [] durable old.state new.state → Leaves IsRooted old.state new.state → Lost w durable faults.Device old new
+lost-commit w durable old new opened later survives rooted = record { lost = tt; survives = survives; rooted = rooted; rests = λ is. absurd (cc); counts = counts-quiet durable old new opened.rest.image opened.rest.tells rooted later }
 
 -- ---- a line
 
 -- a line's command was acted, and its reply is settled as long as no write was taken
-pub answered-line : (v w : StoreView) (durable : State) (command : Command) (wrote0 wrote taken : Bool) (waiting0 waiting waiting' : Waiting) (old new : told.State) → Answers v durable command taken waiting0 waiting w old new
+pub answered-line : (v w : StoreView) (durable : State) (command : Command) (wrote0 wrote taken : Bool) (waiting0 waiting waiting' : Waiting) (old new : Moment) → Answers v durable command taken waiting0 waiting w old new
     → wrote ≡ (wrote0 || taken) → waiting' ≡ settled_unless wrote waiting → Answered v durable command wrote0 wrote waiting0 waiting' w old new
 answered-line v w durable command wrote0 wrote taken waiting0 waiting waiting' old new a is settled = record {
   reply = a.reply;
@@ -363,6 +388,7 @@ answered-line v w durable command wrote0 wrote taken waiting0 waiting waiting' o
   goes = a.goes;
   rooted = a.rooted;
   quiet = a.quiet;
+  stat = a.stat;
   wrote_is = is ∙ ap (λ b. wrote0 || b) a.taken_is;
   fits = a.fits;
   told = settled ∙ ap (settled_unless wrote) a.told;

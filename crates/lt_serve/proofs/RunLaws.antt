@@ -58,39 +58,38 @@ found-not None = refl
 found-not (Some v) = refl
 
 -- a reply that is no `OK`
-not-ok : (c : Command) (reply other : Reply) → reply ≡ other → is_ok other ≡ false → cond {A = ℕ} (is_ok reply) 1 0 ≤ length (taken c reply)
-not-ok c reply other is none =
-    let n : cond {A = ℕ} (is_ok reply) 1 0 ≡ 0 = ap (λ r. cond {A = ℕ} (is_ok r) 1 0) is ∙ ap (λ b. cond {A = ℕ} b 1 0) none in
-    omega arith
+not-ok : (c : Command) (reply other : Reply) → reply ≡ other → is_ok other ≡ false → taken c other ≡ [] → cond {A = ℕ} (is_ok reply) 1 0 ≡ length (taken c reply)
+not-ok c reply other is none nothing =
+    ap (λ r. cond {A = ℕ} (is_ok r) 1 0) is ∙ ap (λ b. cond {A = ℕ} b 1 0) none ∙ sym (ap length (ap (taken c) is ∙ nothing))
 
 -- a step whose reply is `OK` is a write that was taken
-step-counts : (e : ℕ) (s t : State) (c : Command) (r : Reply) → Step e s c r t → cond {A = ℕ} (is_ok r) 1 0 ≤ length (taken c r)
-step-counts e s t (put key value) replies.ok step = omega arith
-step-counts e s t (put key value) replies.limit step = omega arith
-step-counts e s t (put key value) (replies.full needed free) step = omega arith
+step-counts : (e : ℕ) (s t : State) (c : Command) (r : Reply) → Step e s c r t → cond {A = ℕ} (is_ok r) 1 0 ≡ length (taken c r)
+step-counts e s t (put key value) replies.ok step = refl
+step-counts e s t (put key value) replies.limit step = refl
+step-counts e s t (put key value) (replies.full needed free) step = refl
 step-counts e s t (put key value) (replies.value v) step = absurd step
 step-counts e s t (put key value) replies.none step = absurd step
 step-counts e s t (put key value) (replies.stat w r t' f) step = absurd step
 step-counts e s t (put key value) (replies.bad kind) step = absurd step
-step-counts e s t (delete key) replies.ok step = omega arith
-step-counts e s t (delete key) replies.limit step = omega arith
-step-counts e s t (delete key) (replies.full needed free) step = omega arith
+step-counts e s t (delete key) replies.ok step = refl
+step-counts e s t (delete key) replies.limit step = refl
+step-counts e s t (delete key) (replies.full needed free) step = refl
 step-counts e s t (delete key) (replies.value v) step = absurd step
 step-counts e s t (delete key) replies.none step = absurd step
 step-counts e s t (delete key) (replies.stat w r t' f) step = absurd step
 step-counts e s t (delete key) (replies.bad kind) step = absurd step
-step-counts e s t (get key) reply step = not-ok (get key) reply (found (value_at s.map key)) step.0 (found-not (value_at s.map key))
+step-counts e s t (get key) reply step = not-ok (get key) reply (found (value_at s.map key)) step.0 (found-not (value_at s.map key)) refl
 step-counts e s t stat replies.ok step = absurd step.0
 step-counts e s t stat replies.limit step = absurd step.0
 step-counts e s t stat (replies.full needed free) step = absurd step.0
 step-counts e s t stat (replies.value v) step = absurd step.0
 step-counts e s t stat replies.none step = absurd step.0
-step-counts e s t stat (replies.stat w r t' f) step = omega arith
+step-counts e s t stat (replies.stat w r t' f) step = refl
 step-counts e s t stat (replies.bad kind) step = absurd step.0
-step-counts e s t (bad kind) reply step = not-ok (bad kind) reply (replies.bad kind) step.0 refl
+step-counts e s t (bad kind) reply step = not-ok (bad kind) reply (replies.bad kind) step.0 refl refl
 
-run-counts : (e : ℕ) (s t : State) (cs : List Command) (rs : List Reply) → Run e s cs rs t → ok_count rs ≤ length (accepted cs rs)
-run-counts e s t [] [] run = omega arith
+run-counts : (e : ℕ) (s t : State) (cs : List Command) (rs : List Reply) → Run e s cs rs t → ok_count rs ≡ length (accepted cs rs)
+run-counts e s t [] [] run = refl
 run-counts e s t [] (r ∷ rs) run = absurd run
 run-counts e s t (c ∷ cs) [] run = absurd run
 run-counts e s t (c ∷ cs) (r ∷ rs) run =
@@ -98,9 +97,12 @@ run-counts e s t (c ∷ cs) (r ∷ rs) run =
     let more = run-counts e run.0 t cs rs run.2 in
     omega (arith, one, more, ok_count-cons r rs, length-append (taken c r) (accepted cs rs))
 
--- each `OK` is a write that was taken
+-- each `OK` is a write that was taken, and there is no other
+pub runs-oks : (e : ℕ) (s : State) (cs : List Command) (rs : List Reply) (ws : List Item) → Runs e s cs rs ws → ok_count rs ≡ length ws
+runs-oks e s cs rs ws runs = run-counts e s (after_writes s ws) cs rs runs.run ∙ sym (ap length runs.taken_are)
+
 pub runs-counts : (e : ℕ) (s : State) (cs : List Command) (rs : List Reply) (ws : List Item) → Runs e s cs rs ws → ok_count rs ≤ length ws
-runs-counts e s cs rs ws runs = let n : length ws ≡ length (accepted cs rs) = ap length runs.taken_are in let m = run-counts e s (after_writes s ws) cs rs runs.run in omega arith
+runs-counts e s cs rs ws runs = omega (arith, runs-oks e s cs rs ws runs)
 
 -- ---- their texts
 

@@ -2,12 +2,14 @@
 use Rattle.std.proofs.Common.{◌≡◌, ℕ, zero, suc, ◌+◌, ◌≤◌, refl, sym, ap, subst, ◌∙◌, List, [], ◌∷◌, ◌++◌, length, take, drop, length-append, append-nil, take-append-drop, Option, Some, None, Result, Ok, Err, arith}
 use Rattle.std.proofs.Math.Seq.{take-length}
 use Rattle.lt_terms.specs.Causes.{RoseBy, next_count}
+use Rattle.lt_terms.specs.Bytes.{Image}
+use Rattle.lt_device.specs.Moments.{Leaves, MayLeave}
 use Rattle.lt_device.specs.State as told
 use Rattle.lt_device.proofs.Runs.{begins}
 use Rattle.lt_io.specs.Streams.{Takes, IsAtEnd, IsFrontOf, pieces_after, Gains}
 use Rattle.lt_io.proofs.Flows.{Takes-none, Takes-more, Gains-none}
 use Rattle.lt_image.specs.Versions.{open_image}
-use Rattle.lt_image.specs.Standing.{after_writes}
+use Rattle.lt_image.specs.Standing.{IsPrefix, after_writes}
 use Rattle.lt_image.proofs.KeptLaws.{no_writes}
 use Rattle.lt_image.proofs.PrefixLaws.{prefix-none}
 use Rattle.lt_language.specs.declared.Bad.TheVariants.{End}
@@ -20,16 +22,17 @@ use Rattle.lt_line.specs.Waiting.{Waiting, all_settled, nothing_waits}
 use Rattle.lt_line.proofs.HeldLaws.{kept_of-none, kept_of-nothing}
 use Rattle.lt_layout.specs.declared.fault.OpenFault.{OpenFault}
 use Rattle.lt_layout.specs.declared.fault.OpenFault.TheVariants as opens
-use Rattle.lt_store.specs.Promise.{StopsOpening, Rests}
+use Rattle.lt_store.specs.Promise.{IsRooted, StopsOpening, Rests}
 use Rattle.lt_store.specs.Open.{StoreView, IsOpen}
 use Rattle.lt_store.proofs.RootedLaws.{rests-rooted, rooted-none}
 use Rattle.lt_serve.specs.declared.served.Served.{Served}
 use Rattle.lt_serve.specs.declared.served.Served.TheVariants as served
-use Rattle.lt_serve.specs.Promise.{FailsToOpen, IsUnopened, IsSound, acknowledged, Over, SteppedOver, TurnedOver}
+use Rattle.lt_serve.specs.Promise.{FailsToOpen, IsUnopened, IsSound, Moment, acknowledged, Over, SteppedOver, TurnedOver}
 use Rattle.lt_serve.specs.Ends.{with_end}
 use Rattle.lt_serve.specs.Faults.{IsEnd, IsHalt, unopened_of}
 use Rattle.lt_serve.specs.Sending.{Sends}
 use Rattle.lt_serve.specs.Serving.{Reached, SteppedOn, TurnedOn}
+use Rattle.lt_serve.proofs.CountLaws.{counts-earlier, counts-none}
 use Rattle.lt_serve.proofs.OverLaws.{over-paused, over-done, over-rest}
 use Rattle.lt_serve.proofs.PieceLaws.{on-none, on-on, over-over}
 use Rattle.lt_serve.proofs.RunLaws.{runs-none}
@@ -42,11 +45,11 @@ none-of zero = refl
 none-of (suc n) = refl
 
 -- nothing more is shown
-no-more : (e : ℕ) (before : State) (status : Served) (input output : List ℕ) (faults0 faults : ℕ) (start now : told.State) → Over e before status input output faults0 faults start now → Over e before status input (output ++ []) faults0 faults start now
+no-more : (e : ℕ) (before : State) (status : Served) (input output : List ℕ) (faults0 faults : ℕ) (start now : Moment) → Over e before status input output faults0 faults start now → Over e before status input (output ++ []) faults0 faults start now
 no-more e before status input output faults0 faults start now over = subst (λ (shown : List ℕ). Over e before status input shown faults0 faults start now) (sym (append-nil output)) over
 
 -- all that waits is given to the sink
-pub finished-told : (e : ℕ) (before : State) (input output kept : List ℕ) (w : StoreView) (start now : told.State) → Reached e before input output kept w start now → (waiting unsent : Waiting) (stands0 stands : List ℕ → Type 0) (faults0 faults : ℕ) → waiting ≡ all_settled (with_end kept nothing_waits) → Sends (length waiting.settled_text) stands0 stands waiting unsent → SteppedOver e before served.Done input output stands0 stands faults0 faults start now
+pub finished-told : (e : ℕ) (before : State) (input output kept : List ℕ) (w : StoreView) (start now : Moment) → Reached e before input output kept w start now → (waiting unsent : Waiting) (stands0 stands : List ℕ → Type 0) (faults0 faults : ℕ) → waiting ≡ all_settled (with_end kept nothing_waits) → Sends (length waiting.settled_text) stands0 stands waiting unsent → SteppedOver e before served.Done input output stands0 stands faults0 faults start now
 finished-told e before input output [] w start now r waiting unsent stands0 stands faults0 faults is sends =
     let said : take (length waiting.settled_text) waiting.settled_text ≡ [] = take-length waiting.settled_text ∙ ap (λ (x : Waiting). x.settled_text) is in
     record {
@@ -64,7 +67,7 @@ finished-told e before input output (b ∷ kept) w start now r waiting unsent st
     }
 
 -- the sink failed
-pub finished-untold : (e : ℕ) (before : State) (input output kept : List ℕ) (w : StoreView) (start now : told.State) → Reached e before input output kept w start now → (waiting unsent : Waiting) (count : ℕ) (stands0 stands : List ℕ → Type 0) (faults0 faults : ℕ) → waiting ≡ all_settled (with_end kept nothing_waits) → Sends count stands0 stands waiting unsent → SteppedOver e before served.Sink input output stands0 stands faults0 faults start now
+pub finished-untold : (e : ℕ) (before : State) (input output kept : List ℕ) (w : StoreView) (start now : Moment) → Reached e before input output kept w start now → (waiting unsent : Waiting) (count : ℕ) (stands0 stands : List ℕ → Type 0) (faults0 faults : ℕ) → waiting ≡ all_settled (with_end kept nothing_waits) → Sends count stands0 stands waiting unsent → SteppedOver e before served.Sink input output stands0 stands faults0 faults start now
 finished-untold e before input output [] w start now r waiting unsent count stands0 stands faults0 faults is sends =
     let said : take count waiting.settled_text ≡ [] = ap (λ (x : Waiting). take count x.settled_text) is ∙ none-of count in
     record {
@@ -84,7 +87,7 @@ finished-untold e before input output (b ∷ kept) w start now r waiting unsent 
 -- ---- one turn
 
 -- the source failed
-pub turned-fault : (e : ℕ) (before : State) (input output kept : List ℕ) (w : StoreView) (start now : told.State) → Reached e before input output kept w start now → (left0 left : Option (List ℕ)) (stands : List ℕ → Type 0) (faults : ℕ) → left ≡ left0 → IsSound served.Source × TurnedOver e before served.Source input output left0 left stands stands faults faults start now
+pub turned-fault : (e : ℕ) (before : State) (input output kept : List ℕ) (w : StoreView) (start now : Moment) → Reached e before input output kept w start now → (left0 left : Option (List ℕ)) (stands : List ℕ → Type 0) (faults : ℕ) → left ≡ left0 → IsSound served.Source × TurnedOver e before served.Source input output left0 left stands stands faults faults start now
 turned-fault e before input output kept w start now r left0 left stands faults same = (
   tt,
   record {
@@ -114,7 +117,7 @@ end-sound served.NoMemory end = tt
 end-sound served.Turns end = tt
 
 -- its end was met
-pub turned-end : (e : ℕ) (before : State) (status : Served) (input output : List ℕ) (start now : told.State) (left0 left : Option (List ℕ)) (stands0 stands : List ℕ → Type 0) (faults0 faults : ℕ) (page : List ℕ) (n : ℕ) → n ≡ 0 → IsEnd status → Takes left0 left (take n page) → IsAtEnd left0 → SteppedOver e before status input output stands0 stands faults0 faults start now → IsSound status × TurnedOver e before status input output left0 left stands0 stands faults0 faults start now
+pub turned-end : (e : ℕ) (before : State) (status : Served) (input output : List ℕ) (start now : Moment) (left0 left : Option (List ℕ)) (stands0 stands : List ℕ → Type 0) (faults0 faults : ℕ) (page : List ℕ) (n : ℕ) → n ≡ 0 → IsEnd status → Takes left0 left (take n page) → IsAtEnd left0 → SteppedOver e before status input output stands0 stands faults0 faults start now → IsSound status × TurnedOver e before status input output left0 left stands0 stands faults0 faults start now
 turned-end e before status input output start now left0 left stands0 stands faults0 faults page n none end takes done over =
     let nothing = subst (λ (k : ℕ). Takes left0 left (take k page)) none takes in (
       end-sound status end,
@@ -127,7 +130,7 @@ turned-end e before status input output start now left0 left stands0 stands faul
     )
 
 -- a piece was served
-pub turned-on : (e : ℕ) (before : State) (input output kept : List ℕ) (w : StoreView) (start new : told.State) (left0 left : Option (List ℕ)) (stands0 stands : List ℕ → Type 0) (piece taken : List ℕ) → Takes left0 left taken → taken ≡ piece → SteppedOn e before (input ++ piece) output kept w stands0 stands start new → TurnedOn e before input output kept w left0 left stands0 stands start new
+pub turned-on : (e : ℕ) (before : State) (input output kept : List ℕ) (w : StoreView) (start new : Moment) (left0 left : Option (List ℕ)) (stands0 stands : List ℕ → Type 0) (piece taken : List ℕ) → Takes left0 left taken → taken ≡ piece → SteppedOn e before (input ++ piece) output kept w stands0 stands start new → TurnedOn e before input output kept w left0 left stands0 stands start new
 turned-on e before input output kept w start new left0 left stands0 stands piece taken takes is on = record { taken = piece; takes = subst (λ (bytes : List ℕ). Takes left0 left bytes) is takes; on = on }
 
 -- no block is damaged where serving stopped in a piece
@@ -141,7 +144,7 @@ sound served.NoMemory halt = tt
 sound served.Turns halt = tt
 
 -- serving stopped in a piece
-pub turned-over : (e : ℕ) (before : State) (status : Served) (input output : List ℕ) (start new : told.State) (left0 left : Option (List ℕ)) (stands0 stands : List ℕ → Type 0) (faults0 faults : ℕ) (piece taken : List ℕ) → Takes left0 left taken → taken ≡ piece → IsHalt status × SteppedOver e before status (input ++ piece) output stands0 stands faults0 faults start new → IsSound status × TurnedOver e before status input output left0 left stands0 stands faults0 faults start new
+pub turned-over : (e : ℕ) (before : State) (status : Served) (input output : List ℕ) (start new : Moment) (left0 left : Option (List ℕ)) (stands0 stands : List ℕ → Type 0) (faults0 faults : ℕ) (piece taken : List ℕ) → Takes left0 left taken → taken ≡ piece → IsHalt status × SteppedOver e before status (input ++ piece) output stands0 stands faults0 faults start new → IsSound status × TurnedOver e before status input output left0 left stands0 stands faults0 faults start new
 turned-over e before status input output start new left0 left stands0 stands faults0 faults piece taken takes is over = (
   sound status over.0,
   record { taken = piece; takes = subst (λ (bytes : List ℕ). Takes left0 left bytes) is takes; at_end = λ done. absurd (subst IsHalt done over.0); over = over.1 },
@@ -150,24 +153,25 @@ turned-over e before status input output start new left0 left stands0 stands fau
 -- ---- one turn behind another
 
 -- nothing was taken yet
-reached-none : (e : ℕ) (before : State) (kept : List ℕ) (w : StoreView) (s : told.State) → kept ≡ [] → IsOpen w before s → Reached e before [] [] kept w s s
+reached-none : (e : ℕ) (before : State) (kept : List ℕ) (w : StoreView) (s : Moment) → kept ≡ [] → IsOpen w before s.state → Reached e before [] [] kept w s s
 reached-none e before kept w s none opened = record {
   replies = [];
   writes = [];
   runs = runs-none e before;
   text = refl;
   line = none ∙ sym kept_of-none;
-  opened = subst (λ (t : State). IsOpen w t s) (sym (no_writes before)) opened;
-  since = begins s (λ left may. prefix-none left before [] (opened.rest.each left may));
-  rooted = rooted-none w before s opened;
+  opened = subst (λ (t : State). IsOpen w t s.state) (sym (no_writes before)) opened;
+  since = begins s.state (λ left may. prefix-none left before [] (opened.rest.each left may));
+  rooted = rooted-none w before s.state opened;
   quiet = λ none. refl;
+  counts = counts-none before s s refl (omega arith);
 }
 
 -- a run that took nothing yet
-pub turned-none : (e : ℕ) (before : State) (kept : List ℕ) (w : StoreView) (left : Option (List ℕ)) (stands : List ℕ → Type 0) (s : told.State) → kept ≡ [] → IsOpen w before s → TurnedOn e before [] [] kept w left left stands stands s s
+pub turned-none : (e : ℕ) (before : State) (kept : List ℕ) (w : StoreView) (left : Option (List ℕ)) (stands : List ℕ → Type 0) (s : Moment) → kept ≡ [] → IsOpen w before s.state → TurnedOn e before [] [] kept w left left stands stands s s
 turned-none e before kept w left stands s none opened = record { taken = []; takes = Takes-none left; on = on-none e before [] [] kept w stands s s (reached-none e before kept w s none opened) }
 
-module _ (e : ℕ) (before : State) (kept : List ℕ) (w : StoreView) (left0 left1 : Option (List ℕ)) (stands0 stands1 : List ℕ → Type 0) (start mid : told.State) (t : TurnedOn e before [] [] kept w left0 left1 stands0 stands1 start mid) where
+module _ (e : ℕ) (before : State) (kept : List ℕ) (w : StoreView) (left0 left1 : Option (List ℕ)) (stands0 stands1 : List ℕ → Type 0) (start mid : Moment) (t : TurnedOn e before [] [] kept w left0 left1 stands0 stands1 start mid) where
   -- no turn is left, or no memory
   pub turned-pause : (status : Served) (faults0 faults : ℕ) → (status ≡ served.Done → ⊥) → TurnedOver e before status [] [] left0 left1 stands0 stands1 faults0 faults start mid
   turned-pause status faults0 faults other = record {
@@ -177,7 +181,7 @@ module _ (e : ℕ) (before : State) (kept : List ℕ) (w : StoreView) (left0 lef
     over = record { added = t.on.added; gained = t.on.gained; over = over-paused e before t.taken t.on.added kept w start mid t.on.reached status faults0 faults other };
   }
 
-  module _ (f : ℕ) (same : f ≡ e) (left : Option (List ℕ)) (stands : List ℕ → Type 0) (new : told.State) where
+  module _ (f : ℕ) (same : f ≡ e) (left : Option (List ℕ)) (stands : List ℕ → Type 0) (new : Moment) where
     -- one turn more
     pub turned-more : (kept' : List ℕ) (x : StoreView) → (Reached f before t.taken t.on.added kept w start mid → TurnedOn f before t.taken t.on.added kept' x left1 left stands1 stands start new) → TurnedOn e before [] [] kept' x left0 left stands0 stands start new
     turned-more kept' x call =
@@ -226,11 +230,13 @@ open-sound (opens.Damaged block) sound = absurd (sound block refl)
 open-sound opens.NoMemory sound = tt
 
 -- no line was acted
-over-unopened : (e : ℕ) (before : State) (status : Served) (faults0 faults : ℕ) (s : told.State) → Rests before s → Over e before status [] [] faults0 faults s s
+over-unopened : (e : ℕ) (before : State) (status : Served) (faults0 faults : ℕ) (old new : Moment) → new.state ≡ old.state → old.reads ≤ new.reads → Rests before old.state → Over e before status [] [] faults0 faults old new
 unfolding acknowledged
-over-unopened e before status faults0 faults s r =
+over-unopened e before status faults0 faults old new still later r =
     let same : before ≡ after_writes before [] = sym (no_writes before) in
-    let rests : Rests (after_writes before []) s = subst (λ (t : State). Rests t s) same r in
+    let now : Rests before new.state = subst (λ (s : told.State). Rests before s) (sym still) r in
+    let rests : Rests (after_writes before []) new.state = subst (λ (t : State). Rests t new.state) same now in
+    let at_once : (P : Image → Type 0) → ((left : Image) → MayLeave old.state left → P left) → Leaves P old.state new.state = λ P holds. subst (λ (s : told.State). Leaves P old.state s) (sym still) (begins old.state holds) in
     record {
       acted = [];
       others = [];
@@ -244,27 +250,64 @@ over-unopened e before status faults0 faults s r =
       paused = λ pause. (refl, refl);
       far = λ front behind is long. absurd (omega (arith, ap length is, length-append front behind));
       whole = λ inner still. record { shown = []; hidden = []; order = refl; text = refl; first = tt };
-      since = begins s (λ left may. prefix-none left before [] (r.rest.each left may));
-      rooted = begins s (rests-rooted before s r);
-      at_exit = λ left may. prefix-none left before [] (r.rest.each left may);
+      since = at_once (λ left. IsPrefix left before [] 0) (λ left may. prefix-none left before [] (r.rest.each left may));
+      rooted = at_once IsRooted (rests-rooted before old.state r);
+      at_exit = λ left may. prefix-none left before [] (now.rest.each left may);
       rests = λ short. (0, rests);
       rests_all = λ settled. rests;
-      quiet = λ settled none. refl;
+      quiet = λ settled none. still;
+      counts = counts-none before old new (sym still) later;
     }
 
+-- counted from fewer reads, on the same device
+over-before : (e : ℕ) (before : State) (status : Served) (input output : List ℕ) (faults0 faults : ℕ) (first old new : Moment) → first.state ≡ old.state → first.reads ≤ old.reads → Over e before status input output faults0 faults old new → Over e before status input output faults0 faults first new
+over-before e before status input output faults0 faults first old new same le o = record {
+  acted = o.acted;
+  others = o.others;
+  order = o.order;
+  replies = o.replies;
+  writes = o.writes;
+  runs = o.runs;
+  counts = counts-earlier before o.replies o.writes first old new same le o.counts;
+  hidden = o.hidden;
+  text = o.text;
+  all = o.all;
+  paused = o.paused;
+  far = o.far;
+  whole = o.whole;
+  since = subst (λ (s : told.State). Leaves (λ left. IsPrefix left before o.writes 0) s new.state) (sym same) o.since;
+  rooted = subst (λ (s : told.State). Leaves IsRooted s new.state) (sym same) o.rooted;
+  at_exit = o.at_exit;
+  rests = o.rests;
+  rests_all = o.rests_all;
+  quiet = λ settled none. o.quiet settled none ∙ sym same;
+}
+
+-- so is a run of a store that was opened before
+pub turned-opened : (e : ℕ) (before : State) (status : Served) (left0 left : Option (List ℕ)) (stands0 stands : List ℕ → Type 0) (faults0 faults : ℕ) (first old new : Moment) → first.state ≡ old.state → first.reads ≤ old.reads → IsSound status × TurnedOver e before status [] [] left0 left stands0 stands faults0 faults old new → IsSound status × TurnedOver e before status [] [] left0 left stands0 stands faults0 faults first new
+turned-opened e before status left0 left stands0 stands faults0 faults first old new same le both =
+    let t = both.1 in (
+      both.0,
+      record {
+        taken = t.taken;
+        takes = t.takes;
+        at_end = t.at_end;
+        over = record { added = t.over.added; gained = t.over.gained; over = over-before e before status t.taken t.over.added faults0 faults first old new same le t.over.over };
+      },
+    )
+
 -- nothing was served: the device is as it was
-pub turned-unopened : (e : ℕ) (before : State) (fault : OpenFault) (status : Served) (left : Option (List ℕ)) (stands : List ℕ → Type 0) (faults : ℕ) (old new : told.State) → status ≡ unopened_of fault → new ≡ old → Rests before old → ((block : ℕ) → fault ≡ opens.Damaged block → ⊥) → IsSound status × TurnedOver e before status [] [] left left stands stands faults faults old new
-turned-unopened e before fault status left stands faults old new is same rests none =
-    subst (λ (answer : Served). IsSound answer × TurnedOver e before answer [] [] left left stands stands faults faults old new) (sym is)
-    (subst (λ (s : told.State). IsSound (unopened_of fault) × TurnedOver e before (unopened_of fault) [] [] left left stands stands faults faults old s) (sym same) (
+pub turned-unopened : (e : ℕ) (before : State) (fault : OpenFault) (status : Served) (left : Option (List ℕ)) (stands : List ℕ → Type 0) (faults : ℕ) (old new : Moment) → status ≡ unopened_of fault → new.state ≡ old.state → old.reads ≤ new.reads → Rests before old.state → ((block : ℕ) → fault ≡ opens.Damaged block → ⊥) → IsSound status × TurnedOver e before status [] [] left left stands stands faults faults old new
+turned-unopened e before fault status left stands faults old new is same later rests none =
+    subst (λ (answer : Served). IsSound answer × TurnedOver e before answer [] [] left left stands stands faults faults old new) (sym is) (
       open-sound fault none,
       record {
         taken = [];
         takes = Takes-none left;
         at_end = λ done. absurd (no-end fault done);
-        over = record { added = []; gained = Gains-none stands; over = over-unopened e before (unopened_of fault) faults faults old rests };
+        over = record { added = []; gained = Gains-none stands; over = over-unopened e before (unopened_of fault) faults faults old new same later rests };
       },
-    ))
+    )
 
 -- opening that stops at two blocks stops at one
 names-one : {A : Type 0} (r : Result A ℕ) (a b : ℕ) → r ≡ Err a → r ≡ Err b → a ≡ b

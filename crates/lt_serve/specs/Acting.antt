@@ -1,8 +1,9 @@
 -- What a command makes of the store, of the device and of the replies that wait.
 use Rattle.std.specs.Prelude.{◌≡◌, ℕ, ◌≤◌, Bool, true, false, ◌||◌, List, [], ◌∷◌, take, length, Result, Ok, Err, Some}
 use Rattle.lt_terms.specs.Items.{Item}
-use Rattle.lt_device.specs.Moments.{Leaves}
-use Rattle.lt_device.specs.State as told
+use Rattle.lt_terms.specs.Bytes.{Image}
+use Rattle.lt_device.specs.Moments.{Leaves, MayLeave}
+use Rattle.lt_image.specs.Counts.{HasCounts}
 use Rattle.lt_image.specs.Standing.{after_writes}
 use Rattle.lt_language.specs.declared.Bad.{Bad}
 use Rattle.lt_language.specs.Commands as commands
@@ -19,31 +20,43 @@ use Rattle.lt_store.specs.Acting.{MayAct, command_of}
 use Rattle.lt_store.specs.Going.{Goes, Survives}
 use Rattle.lt_store.specs.Open.{StoreView, extents_of, state_of}
 use Rattle.lt_store.specs.Promise.{IsRooted, Rests}
-use Rattle.lt_serve.specs.Promise.{Runs, is_ok}
+use Rattle.lt_serve.specs.Promise.{KeepsPast, Moment, OnStat, ReadsRise, Runs, TellsCounts, is_ok}
+
+-- What the reply to a command tells, where it is a `STAT`: the count of reads, which does not fall, and the tables and
+-- free extents of each image that a crash may leave, where few writes are pending. A past that was told still is.
+pub record TellsStat (v : StoreView) (old new : Moment) (reply : Reply) : Type 0 where
+  pub reads : ReadsRise old.reads new.reads (reply ∷ [])
+  pub images : OnStat (λ tables free. (length v.log.pending ≤ 818)
+      × ((left : Image) → MayLeave old.state left → HasCounts left tables free)) reply
+  pub past : KeepsPast old.state new.state
 
 -- The command was answered by the map machine, and its reply waits; `taken` where it is a write that was taken.
 pub record Answers (v : StoreView) (durable : State) (command : Command) (taken : Bool) (waiting0 waiting : Waiting)
-    (w : StoreView) (old new : told.State) : Type 0 where
+    (w : StoreView) (old new : Moment) : Type 0 where
   pub reply : Reply
   pub writes : List Item
   pub runs : Runs (extents_of v) (state_of v durable) (command ∷ []) (reply ∷ []) writes
-  pub goes : Goes v writes w durable old new
+  pub goes : Goes v writes w durable old.state new.state
   -- each image since names the root alone
-  pub rooted : Leaves IsRooted old new
+  pub rooted : Leaves IsRooted old.state new.state
   -- where nothing was pending and no write was taken, the device is as before
-  pub quiet : v.log.pending ≡ [] → writes ≡ [] → new ≡ old
+  pub quiet : v.log.pending ≡ [] → writes ≡ [] → new.state ≡ old.state
+  -- what it tells, where it is a `STAT`
+  pub stat : TellsStat v old new reply
   pub taken_is : taken ≡ is_ok reply
   pub fits : length (text reply) ≤ waiting0.room
   pub told : waiting ≡ with_text waiting0 (text reply)
 
 -- The command was not answered, and no block is damaged. All that was durable still is, at each moment; where memory
 -- was short the device is at rest.
-pub record Lost (v : StoreView) (durable : State) (fault : RoundFault) (old new : told.State) : Type 0 where
+pub record Lost (v : StoreView) (durable : State) (fault : RoundFault) (old new : Moment) : Type 0 where
   pub lost : IsLost fault
-  pub survives : Survives v [] durable old new
+  pub survives : Survives v [] durable old.state new.state
   -- each image since names the root alone
-  pub rooted : Leaves IsRooted old new
-  pub rests : fault ≡ faults.NoMemory → (sure : ℕ) × Rests (after_writes durable (take sure v.log.pending)) new
+  pub rooted : Leaves IsRooted old.state new.state
+  pub rests : fault ≡ faults.NoMemory → (sure : ℕ) × Rests (after_writes durable (take sure v.log.pending)) new.state
+  -- and the count of reads did not fall
+  pub counts : TellsCounts durable [] [] old new
 
 -- all of it is settled as long as no write was taken
 abbrev pub settled_unless : Bool → Waiting → Waiting
@@ -52,15 +65,17 @@ settled_unless false w = all_settled w
 
 -- A line was answered by the map machine, and its reply is settled as long as no write was taken.
 pub record Answered (v : StoreView) (durable : State) (command : Command) (wrote0 wrote : Bool)
-    (waiting0 waiting : Waiting) (w : StoreView) (old new : told.State) : Type 0 where
+    (waiting0 waiting : Waiting) (w : StoreView) (old new : Moment) : Type 0 where
   pub reply : Reply
   pub writes : List Item
   pub runs : Runs (extents_of v) (state_of v durable) (command ∷ []) (reply ∷ []) writes
-  pub goes : Goes v writes w durable old new
+  pub goes : Goes v writes w durable old.state new.state
   -- each image since names the root alone
-  pub rooted : Leaves IsRooted old new
+  pub rooted : Leaves IsRooted old.state new.state
   -- where nothing was pending and no write was taken, the device is as before
-  pub quiet : v.log.pending ≡ [] → writes ≡ [] → new ≡ old
+  pub quiet : v.log.pending ≡ [] → writes ≡ [] → new.state ≡ old.state
+  -- what it tells, where it is a `STAT`
+  pub stat : TellsStat v old new reply
   pub wrote_is : wrote ≡ (wrote0 || is_ok reply)
   pub fits : length (text reply) ≤ waiting0.room
   pub told : waiting ≡ settled_unless wrote (with_text waiting0 (text reply))

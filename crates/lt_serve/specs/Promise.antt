@@ -18,8 +18,10 @@ use Rattle.lt_serve.specs.declared.served.Served.{Served}
 use Rattle.lt_serve.specs.declared.served.Served.TheVariants as served
 use Rattle.lt_terms.specs.Bytes.{Image}
 use Rattle.lt_terms.specs.Causes.{Rose}
-use Rattle.lt_device.specs.Moments.{Leaves, MayLeave}
+use Rattle.lt_device.specs.Moments.{LeftSince, Leaves, MayLeave, clock}
 use Rattle.lt_device.specs.State as told
+use Rattle.lt_device.specs.State.{Epoch}
+use Rattle.lt_image.specs.Counts.{HasCounts}
 use Rattle.lt_io.specs.Streams.{Gains, Takes, IsAtEnd}
 use Rattle.lt_language.specs.Commands.{lines_of}
 use Rattle.lt_store.specs.Promise.{IsReplyTo, IsRooted, Rests, StopsGet}
@@ -51,6 +53,51 @@ acknowledged (reply ∷ replies) shown =
     if nat_le (length (text reply)) shown
     then (if is_ok reply then 1 else 0) + acknowledged replies (shown - length (text reply))
     else 0
+
+-- a moment of a device: what it tells, and how many blocks it has read so far
+pub record Moment : Type 0 where
+  pub state : told.State
+  pub reads : ℕ
+
+-- the moment at which a device is
+abbrev pub moment_of : {D : Type 0} → Devices D → D → Moment
+moment_of d device = record { state = d.state device; reads = d.reads device }
+
+-- the counts of reads that `STAT` replies tell lie between these two, and none is less than the one before it
+abbrev pub ReadsRise : ℕ → ℕ → List Reply → Type 0
+ReadsRise low high [] = low ≤ high
+ReadsRise low high (replies.stat writes reads tables free ∷ rest) = (low ≤ reads) × ReadsRise reads high rest
+ReadsRise low high (reply ∷ rest) = ReadsRise low high rest
+
+-- P holds of the tables and free extents that the reply tells, where it is a `STAT`
+abbrev pub OnStat : (ℕ → ℕ → Type 0) → Reply → Type 0
+OnStat P (replies.stat writes reads tables free) = P tables free
+OnStat P reply = Unit {0}
+
+-- so it is of each reply, where P is also told how many `OK`s stand before it, behind so many
+abbrev pub EachStat : (ℕ → ℕ → ℕ → Type 0) → ℕ → List Reply → Type 0
+EachStat P oks [] = Unit {0}
+EachStat P oks (reply ∷ rest) = OnStat (P oks) reply × EachStat P (oks + (if is_ok reply then 1 else 0)) rest
+
+-- Some image has these tables and free extents, and the first of so many writes behind a state, all but the last 818 at
+-- least. Where the device told its past at the start, a crash since might have left this image.
+pub record IsCounted (before : State) (writes : List Item) (old new : told.State) (oks tables free : ℕ) : Type 0 where
+  pub left : Image
+  pub has : IsPrefix left before (take oks writes) (oks - 818)
+  pub counts : HasCounts left tables free
+  pub since : (epochs : List Epoch) → old.past ≡ Some epochs → LeftSince new (clock old) left
+
+-- a device that told its past still tells it
+abbrev pub KeepsPast : told.State → told.State → Type 0
+KeepsPast old new = (first : List Epoch) → old.past ≡ Some first → (epochs : List Epoch) × (new.past ≡ Some epochs)
+
+-- What the `STAT` replies of a run tell beside the number of writes: the reads rise from those at the start to those at
+-- the end, and tables and free extents are those of an image since the start, which has the writes that were taken
+-- before the reply but for the last 818 at most.
+pub record TellsCounts (before : State) (replies : List Reply) (writes : List Item) (old new : Moment) : Type 0 where
+  pub reads : ReadsRise old.reads new.reads replies
+  pub images : EachStat (IsCounted before writes old.state new.state) 0 replies
+  pub past : KeepsPast old.state new.state
 
 -- the answer says that serving stopped between two lines, with every reply shown
 abbrev pub IsPause : Served → Type 0
@@ -95,7 +142,7 @@ pub record ShowsUpToOk (replies : List Reply) (output : List ℕ) : Type 0 where
 -- Serving is over: first commands of the ended input were answered by the map machine, and the output is a front of
 -- the text of the replies.
 pub record Over (e : ℕ) (before : State) (status : Served) (input output : List ℕ) (faults0 faults : ℕ)
-    (old new : told.State) : Type 0 where
+    (old new : Moment) : Type 0 where
   -- the commands that were acted and those that were not
   pub acted : List Command
   pub others : List Command
@@ -104,6 +151,8 @@ pub record Over (e : ℕ) (before : State) (status : Served) (input output : Lis
   pub replies : List Reply
   pub writes : List Item
   pub runs : Runs e before acted replies writes
+  -- what its `STAT` replies tell
+  pub counts : TellsCounts before replies writes old new
   -- what of their text is not shown
   pub hidden : List ℕ
   pub text : texts replies ≡ output ++ hidden
@@ -117,27 +166,28 @@ pub record Over (e : ℕ) (before : State) (status : Served) (input output : Lis
       → ShowsFirst (length (lines_of front)) replies output
   pub whole : IsInnerHalt status → (Rose faults0 faults → ⊥) → ShowsUpToOk replies output
   -- each image since the start has first writes of those that were taken, and none in part
-  pub since : Leaves (λ left. IsPrefix left before writes 0) old new
+  pub since : Leaves (λ left. IsPrefix left before writes 0) old.state new.state
   -- and its manifest names no node but the root
-  pub rooted : Leaves IsRooted old new
+  pub rooted : Leaves IsRooted old.state new.state
   -- each image that a crash may leave at exit has every write whose `OK` and line feed the output has
-  pub at_exit : (left : Image) → MayLeave new left → IsPrefix left before writes (acknowledged replies (length output))
+  pub at_exit : (left : Image) → MayLeave new.state left
+      → IsPrefix left before writes (acknowledged replies (length output))
   -- but for a fault of the device it is at rest: with all writes, or where memory was short with the first of them
-  pub rests : status ≡ served.NoMemory → (sure : ℕ) × Rests (after_writes before (take sure writes)) new
-  pub rests_all : IsSettled status → Rests (after_writes before writes) new
+  pub rests : status ≡ served.NoMemory → (sure : ℕ) × Rests (after_writes before (take sure writes)) new.state
+  pub rests_all : IsSettled status → Rests (after_writes before writes) new.state
   -- and as before where no write was taken
-  pub quiet : IsSettled status → writes ≡ [] → new ≡ old
+  pub quiet : IsSettled status → writes ≡ [] → new.state ≡ old.state
 
 -- a call that gave bytes to the sink, and after which serving is over
 pub record SteppedOver (e : ℕ) (before : State) (status : Served) (input output : List ℕ) (stands0 stands : List ℕ
-    → Type 0) (faults0 faults : ℕ) (start new : told.State) : Type 0 where
+    → Type 0) (faults0 faults : ℕ) (start new : Moment) : Type 0 where
   pub added : List ℕ
   pub gained : Gains stands0 stands added
   pub over : Over e before status input (output ++ added) faults0 faults start new
 
 -- a call that took bytes of the source, gave bytes to the sink, and after which serving is over
 pub record TurnedOver (e : ℕ) (before : State) (status : Served) (input output : List ℕ) (left0 left : Option
-    (List ℕ)) (stands0 stands : List ℕ → Type 0) (faults0 faults : ℕ) (start new : told.State) : Type 0 where
+    (List ℕ)) (stands0 stands : List ℕ → Type 0) (faults0 faults : ℕ) (start new : Moment) : Type 0 where
   pub taken : List ℕ
   pub takes : Takes left0 left taken
   pub at_end : status ≡ served.Done → IsAtEnd left
@@ -170,7 +220,7 @@ abbrev pub ServesFrom : {S K D : Type 0} → Sources S → Sinks K → Devices D
     → D → Type 0
 ServesFrom u k d e before status source0 source sink0 sink old new = IsSound status
     × TurnedOver e before status [] [] (u.left source0) (u.left source) (k.stands sink0) (k.stands sink)
-    (k.faults sink0) (k.faults sink) (d.state old) (d.state new)
+    (k.faults sink0) (k.faults sink) (moment_of d old) (moment_of d new)
 
 -- the device tells its blocks, and opening them stops at this one
 pub record FailsToOpen (device : told.State) (block : ℕ) : Type 0 where

@@ -7,7 +7,6 @@ use Rattle.std.specs.Prelude.{◌≡◌, ◌≢◌, ℕ, ◌+◌, ◌-◌, ◌<�
 use Rattle.std.specs.Prelude.{length}
 use Rattle.lt_terms.specs.Items.{Item}
 use Rattle.lt_device.specs.Moments.{Leaves}
-use Rattle.lt_device.specs.State as told
 use Rattle.lt_image.specs.Standing.{IsPrefix, after_writes}
 use Rattle.lt_language.specs.Commands.{Command, command_of, commands, lines_of, rest_of, has_line_feed}
 use Rattle.lt_language.specs.Machine.{State}
@@ -22,7 +21,7 @@ use Rattle.lt_serve.specs.declared.faults.RoundFault.TheVariants as faults
 use Rattle.lt_serve.specs.Faults.{IsLost}
 use Rattle.lt_serve.specs.Outcomes.{most_text}
 use Rattle.lt_serve.specs.Runs.{ok_count}
-use Rattle.lt_serve.specs.Promise.{Runs, StartWithOk}
+use Rattle.lt_serve.specs.Promise.{Moment, Runs, StartWithOk, TellsCounts, moment_of}
 
 -- all text that waits, settled or not
 abbrev pub all_text : Waiting → List ℕ
@@ -31,7 +30,7 @@ all_text waiting = waiting.settled_text ++ waiting.pending_text
 -- The lines of the bytes were acted from `v` on. The replies before the first write that was taken are settled, and
 -- the others wait; `wrote` where there are such.
 pub record Went (v : StoreView) (durable : State) (bytes kept : List ℕ) (wrote : Bool) (waiting0 waiting : Waiting)
-    (w : StoreView) (old new : told.State) : Type 0 where
+    (w : StoreView) (old new : Moment) : Type 0 where
   pub shown : List Reply
   pub hidden : List Reply
   pub writes : List Item
@@ -44,15 +43,17 @@ pub record Went (v : StoreView) (durable : State) (bytes kept : List ℕ) (wrote
   pub first : StartWithOk hidden
   pub none : wrote ≡ false → hidden ≡ []
   pub some : wrote ≡ true → hidden ≢ []
-  pub goes : Goes v writes w durable old new
+  pub goes : Goes v writes w durable old.state new.state
   -- each image since names the root alone
-  pub rooted : Leaves IsRooted old new
+  pub rooted : Leaves IsRooted old.state new.state
   -- where nothing was pending and no write was taken, the device is as before
-  pub quiet : v.log.pending ≡ [] → writes ≡ [] → new ≡ old
+  pub quiet : v.log.pending ≡ [] → writes ≡ [] → new.state ≡ old.state
+  -- what the `STAT` replies tell, where nothing was pending
+  pub counts : v.log.pending ≡ [] → TellsCounts durable (shown ++ hidden) writes old new
 
 -- A round that took the bytes: all their lines were answered, the replies are settled, and all writes are durable.
 pub record Round (e : ℕ) (durable : State) (bytes kept : List ℕ) (waiting0 waiting : Waiting) (w : StoreView)
-    (old new : told.State) : Type 0 where
+    (old new : Moment) : Type 0 where
   pub replies : List Reply
   pub writes : List Item
   pub runs : Runs e durable (commands bytes) replies writes
@@ -64,12 +65,14 @@ pub record Round (e : ℕ) (durable : State) (bytes kept : List ℕ) (waiting0 w
     room =
         waiting0.room - length (texts replies);
   }
-  pub opened : IsOpen w (after_writes durable writes) new
-  pub since : Leaves (λ left. IsPrefix left durable writes 0) old new
+  pub opened : IsOpen w (after_writes durable writes) new.state
+  pub since : Leaves (λ left. IsPrefix left durable writes 0) old.state new.state
   -- each image since names the root alone
-  pub rooted : Leaves IsRooted old new
+  pub rooted : Leaves IsRooted old.state new.state
   -- where no write was taken, the device is as before
-  pub quiet : writes ≡ [] → new ≡ old
+  pub quiet : writes ≡ [] → new.state ≡ old.state
+  -- what the `STAT` replies tell
+  pub counts : TellsCounts durable replies writes old new
 
 -- The event of a line failed: the line that is held is one of the bytes' lines, and those before it were acted.
 pub record AtLine (bytes kept : List ℕ) (acted : List Command) : Type 0 where
@@ -93,7 +96,7 @@ pub record AtCommit (bytes kept : List ℕ) (acted : List Command) (left : ℕ) 
 -- A round that failed within the bytes: the lines before the one that is held were acted, the replies before their
 -- first write that was taken are settled, and no other.
 pub record Stopped (e : ℕ) (durable : State) (bytes : List ℕ) (held : HeldLine) (fault : RoundFault)
-    (waiting0 : Waiting) (settled : List ℕ) (old new : told.State) : Type 0 where
+    (waiting0 : Waiting) (settled : List ℕ) (old new : Moment) : Type 0 where
   pub acted : List Command
   pub shown : List Reply
   pub hidden : List Reply
@@ -108,12 +111,14 @@ pub record Stopped (e : ℕ) (durable : State) (bytes : List ℕ) (held : HeldLi
   pub unwritten : ok_count shown ≡ 0
   pub first : StartWithOk hidden
   -- each image since holds first writes of these, behind all that was durable
-  pub since : Leaves (λ left. IsPrefix left durable writes 0) old new
+  pub since : Leaves (λ left. IsPrefix left durable writes 0) old.state new.state
   -- each image since names the root alone
-  pub rooted : Leaves IsRooted old new
+  pub rooted : Leaves IsRooted old.state new.state
   -- no block is damaged; and where memory was short the device is at rest
   pub lost : IsLost fault
-  pub rests : fault ≡ faults.NoMemory → (sure : ℕ) × Rests (after_writes durable (take sure writes)) new
+  pub rests : fault ≡ faults.NoMemory → (sure : ℕ) × Rests (after_writes durable (take sure writes)) new.state
+  -- what the `STAT` replies tell
+  pub counts : TellsCounts durable (shown ++ hidden) writes old new
 
 -- So many bytes of a piece were taken: one at least, unless it is empty, and all, unless less room is left than a reply
 -- may need.
@@ -139,8 +144,8 @@ pub record BeginsRound (s : Session) (waiting : Waiting) : Type 0 where
 abbrev pub ServesLines : {D : Type 0} → Ghosts D → Session → Session → List ℕ → Waiting → Waiting → D → D → Type 0
 ServesLines d s t bytes waiting0 waiting old new = (durable : State) (line : List ℕ)
     → IsOpen (store_in s) durable (d.state old) → IsFalse (has_line_feed line) → kept_in s ≡ kept_of line
-    → Round (extents_of (store_in s)) durable (line ++ bytes) (kept_in t) waiting0 waiting (store_in t) (d.state old)
-    (d.state new)
+    → Round (extents_of (store_in s)) durable (line ++ bytes) (kept_in t) waiting0 waiting (store_in t)
+    (moment_of d old) (moment_of d new)
 
 -- behind the line that the session has begun, on a device that its store is open on, a round failed in these bytes
 abbrev pub StopsInLines : {D : Type 0} → Ghosts D → Session → Session → List ℕ → RoundFault → Waiting → Waiting → D
@@ -148,27 +153,27 @@ abbrev pub StopsInLines : {D : Type 0} → Ghosts D → Session → Session → 
 StopsInLines d s t bytes fault waiting0 waiting old new = (durable : State) (line : List ℕ)
     → IsOpen (store_in s) durable (d.state old) → IsFalse (has_line_feed line) → kept_in s ≡ kept_of line
     → Stopped (extents_of (store_in s)) durable (line ++ bytes) t.lines fault waiting0 waiting.settled_text
-    (d.state old) (d.state new)
+    (moment_of d old) (moment_of d new)
 
 -- behind the line that the session has begun, on a device that its store is open on, these bytes were acted
 abbrev pub ActsLines : {D : Type 0} → Ghosts D → Session → Session → List ℕ → Waiting → Waiting → D → D → Type 0
 ActsLines d s t bytes waiting0 waiting old new = (durable : State) (line : List ℕ)
     → IsOpen (store_in s) durable (d.state old) → IsFalse (has_line_feed line) → kept_in s ≡ kept_of line
-    → Went (store_in s) durable (line ++ bytes) (kept_in t) t.wrote waiting0 waiting (store_in t) (d.state old)
-    (d.state new)
+    → Went (store_in s) durable (line ++ bytes) (kept_in t) t.wrote waiting0 waiting (store_in t)
+    (moment_of d old) (moment_of d new)
 
 -- from wherever a round has got to, it goes on by these bytes
 abbrev pub ActsFurther : {D : Type 0} → Ghosts D → Session → Session → List ℕ → Waiting → Waiting → D → D → Type 0
 ActsFurther d s t bytes now waiting old new = (v : StoreView) (durable : State) (before : List ℕ) (waiting0 : Waiting)
-    (start : told.State) → IsOpen v durable start → extents_of (store_in s) ≡ extents_of v
-    → Went v durable before (kept_in s) s.wrote waiting0 now (store_in s) start (d.state old)
-    → Went v durable (before ++ bytes) (kept_in t) t.wrote waiting0 waiting (store_in t) start (d.state new)
+    (start : Moment) → IsOpen v durable start.state → extents_of (store_in s) ≡ extents_of v
+    → Went v durable before (kept_in s) s.wrote waiting0 now (store_in s) start (moment_of d old)
+    → Went v durable (before ++ bytes) (kept_in t) t.wrote waiting0 waiting (store_in t) start (moment_of d new)
 
 -- from wherever a round has got to, it fails in these bytes
 abbrev pub StopsFurther : {D : Type 0} → Ghosts D → Session → Session → List ℕ → RoundFault → Waiting → Waiting → D
     → D → Type 0
 StopsFurther d s t bytes fault now waiting old new = (v : StoreView) (durable : State) (before : List ℕ)
-    (waiting0 : Waiting) (start : told.State) → IsOpen v durable start → extents_of (store_in s) ≡ extents_of v
+    (waiting0 : Waiting) (start : Moment) → IsOpen v durable start.state → extents_of (store_in s) ≡ extents_of v
     → v.log.pending ≡ []
-    → Went v durable before (kept_in s) s.wrote waiting0 now (store_in s) start (d.state old)
-    → Stopped (extents_of v) durable (before ++ bytes) t.lines fault waiting0 waiting.settled_text start (d.state new)
+    → Went v durable before (kept_in s) s.wrote waiting0 now (store_in s) start (moment_of d old)
+    → Stopped (extents_of v) durable (before ++ bytes) t.lines fault waiting0 waiting.settled_text start (moment_of d new)

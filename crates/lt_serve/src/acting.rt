@@ -10,6 +10,7 @@ ghost use Rattle.lt_serve.specs.Acting.{Answers, IsEventOf, Lost};
 ghost use Rattle.lt_serve.specs.Calls.{ActsOn};
 ghost use Rattle.lt_serve.specs.Faults.{round_fault_of};
 ghost use Rattle.lt_serve.specs.Outcomes.{HasValue, is_taken, most_text};
+ghost use Rattle.lt_serve.specs.Promise.{moment_of};
 ghost use Rattle.lt_serve.specs.Seeing.{StopsAt, Tells};
 
 use crate::outcomes::{add_bad, add_outcome};
@@ -36,10 +37,11 @@ pub(super) fn act_command<D: Device>(
     ensures ok { IfOk result (λ taken. (durable : State)
         → IsOpen (view_of store.old) durable (D.state device.old)
         → Answers (view_of store.old) durable (command_in command.now) taken out.old out.new
-        (view_of store.new) (D.state device.old) (D.state device.new)) }
+        (view_of store.new) (moment_of D.Device device.old) (moment_of D.Device device.new)) }
     ensures err { IfErr result (λ fault. (durable : State)
         → IsOpen (view_of store.old) durable (D.state device.old)
-        → Lost (view_of store.old) durable (round_fault_of fault) (D.state device.old) (D.state device.new)) }
+        → Lost (view_of store.old) durable (round_fault_of fault) (moment_of D.Device device.old)
+        (moment_of D.Device device.new)) }
     ensures untold { OnErr result (out.new ≡ out.old) }
     ensures up { OnOk result (store.new.is_up ≡ true) }
     ensures tells { IfOk result (λ taken. Tells (view_of store.old) (command_in command.now) taken

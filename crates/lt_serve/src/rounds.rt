@@ -10,6 +10,7 @@ ghost use Rattle.lt_store.specs.Open.{IsOpen, blocks_of};
 ghost use Rattle.lt_serve.specs.Acting.{Answered, Lost};
 ghost use Rattle.lt_serve.specs.Calls.{RoundActs};
 ghost use Rattle.lt_serve.specs.Outcomes.{most_text};
+ghost use Rattle.lt_serve.specs.Promise.{moment_of};
 ghost use Rattle.lt_serve.specs.Rounds.{BeginsRound, IsActing, ServesLines, StopsInLines, TakesFront, all_text};
 ghost use Rattle.lt_serve.specs.Seeing.{AnswersFurther, AnswersLines, EndsFurther, FailsInLines, RoundFails};
 ghost use Rattle.lt_serve.specs.Seeing.{RoundSees, StopsAt, TellsLine};
@@ -164,10 +165,12 @@ impl Session {
             → kept_in self.old ≡ kept_of line
             → IsOpen (store_in self.old) durable (D.state device.old)
             → Answered (store_in self.old) durable (command_of line) self.old.wrote self.new.wrote
-            out.old out.new (store_in self.new) (D.state device.old) (D.state device.new)) }
+            out.old out.new (store_in self.new) (moment_of D.Device device.old)
+            (moment_of D.Device device.new)) }
         ensures err { IfErr result (λ fault. (durable : State)
             → IsOpen (store_in self.old) durable (D.state device.old)
-            → Lost (store_in self.old) durable fault (D.state device.old) (D.state device.new)) }
+            → Lost (store_in self.old) durable fault (moment_of D.Device device.old)
+            (moment_of D.Device device.new)) }
         ensures tells { OnOk result ((line : List ℕ) → kept_in self.old ≡ kept_of line
             → TellsLine (store_in self.old) (command_of line) self.old.wrote self.new.wrote
             out.old out.new (store_in self.new) (D.state device.old) (D.state device.new)) }

@@ -11,7 +11,7 @@ ghost use Rattle.lt_store.specs.Open.{IsOpen, StoreView, blocks_of, extents_of};
 ghost use Rattle.lt_serve.specs.Calls.{StopsGetOf, TurnActs};
 ghost use Rattle.lt_serve.specs.Faults.{IsEnd, IsStepEnd, IsTurnEnd};
 ghost use Rattle.lt_serve.specs.Promise.{FailsOn, FailsToOpen, FoundByGet, GivesTo, IsUnopened, ServesFrom};
-ghost use Rattle.lt_serve.specs.Promise.{ServesSeen, SteppedOver, TakesFrom};
+ghost use Rattle.lt_serve.specs.Promise.{Moment, ServesSeen, SteppedOver, TakesFrom};
 ghost use Rattle.lt_serve.specs.Seeing.{EndsSeen, SeesLines, StaysBehind, StepsOn, StepsOver, TakesOn, TakesOver};
 ghost use Rattle.lt_serve.specs.Serving.{IsReady, Reached};
 ghost use Rattle.lt_terms.specs.Bytes.{Image};
@@ -100,7 +100,7 @@ fn finish<K: Sink>(session: &mut Session, replies: &mut Replies, sink: &mut K) -
     requires up { session.old.is_up ≡ true }
     requires none { replies.old ≡ nothing_waits }
 
-    ensures over { (e : ℕ) (before : State) (input output : List ℕ) (start now : told.State)
+    ensures over { (e : ℕ) (before : State) (input output : List ℕ) (start now : Moment)
         → Reached e before input output (kept_in session.old) (store_in session.old) start now
         → SteppedOver e before result input output (K.stands sink.old) (K.stands sink.new)
         (K.faults sink.old) (K.faults sink.new) start now }

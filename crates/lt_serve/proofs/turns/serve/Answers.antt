@@ -1,8 +1,8 @@
-use Rattle.std.proofs.Common.{◌≡◌, ℕ, [], ap, inr, refl, sym, subst, ◌∙◌, Err, arith}
+use Rattle.std.proofs.Common.{◌≡◌, ℕ, ap, inr, refl, sym, subst, ◌∙◌, Err, arith}
 use Rattle.lt_device.specs.State as told
-use Rattle.lt_serve.specs.Promise.{IsSound, TurnedOver}
+use Rattle.lt_serve.specs.Promise.{ServesFrom, moment_of}
 use Rattle.lt_serve.proofs.CallLaws.{fails-behind, gives-none, not-unopened, takes-still, unopened-device}
-use Rattle.lt_serve.proofs.TurnLaws.{turned-unopened, unopened-named}
+use Rattle.lt_serve.proofs.TurnLaws.{turned-opened, turned-unopened, unopened-named}
 use Rattle.lt_image.specs.Versions.{open_image}
 use Rattle.lt_serve.proofs.SizeLaws.{found-by-get}
 use Rattle.lt_serve.proofs.turns.serve.Goals as goal
@@ -19,13 +19,14 @@ use Rattle.lt_serve.proofs.SightLaws.{unopened-sees}
 pub returns-in-Ok-clause-over : goal.returns-in-Ok-clause-over
 returns-in-Ok-clause-over g c = λ before r.
     let opened = c.in-Ok.ensures.opened before r in
-    subst (λ (s : told.State). IsSound c.serve_open.result × TurnedOver r.rest.named.manifest.header.extents before c.serve_open.result [] [] (g.S.Source.left c.args.source.now) (g.S.Source.left c.serve_open.new.source) (g.K.Sink.stands c.args.sink.now) (g.K.Sink.stands c.serve_open.new.sink) (g.K.Sink.faults c.args.sink.now) (g.K.Sink.faults c.serve_open.new.sink) s (g.D.Device.state c.serve_open.new.device)) c.in-Ok.ensures.calls.state
-    (subst (λ (e : ℕ). IsSound c.serve_open.result × TurnedOver e before c.serve_open.result [] [] (g.S.Source.left c.args.source.now) (g.S.Source.left c.serve_open.new.source) (g.K.Sink.stands c.args.sink.now) (g.K.Sink.stands c.serve_open.new.sink) (g.K.Sink.faults c.args.sink.now) (g.K.Sink.faults c.serve_open.new.sink) (g.D.Device.state c.open.new.device) (g.D.Device.state c.serve_open.new.device)) opened.1
-    (c.serve_open.ensures.over before opened.0))
+    let calls = c.in-Ok.ensures.calls in
+    subst (λ (e : ℕ). ServesFrom g.S.Source g.K.Sink g.D.Device e before c.serve_open.result c.args.source.now c.serve_open.new.source c.args.sink.now c.serve_open.new.sink c.args.device.now c.serve_open.new.device) opened.1
+    (turned-opened _ before c.serve_open.result _ _ _ _ _ _ (moment_of g.D.Device c.args.device.now) (moment_of g.D.Device c.open.new.device) (moment_of g.D.Device c.serve_open.new.device) (sym calls.state) calls.count.later (c.serve_open.ensures.over before opened.0))
 
 pub returns-in-Err-clause-over : goal.returns-in-Err-clause-over
 returns-in-Err-clause-over g c = λ before r.
-    turned-unopened _ before c.in-Err.fault c.unopened_of.result _ _ _ _ _ c.unopened_of.ensures c.in-Err.ensures.calls.state r (λ block is. c.in-Err.ensures.at_rest before r block (ap Err is))
+    let calls = c.in-Err.ensures.calls in
+    turned-unopened _ before c.in-Err.fault c.unopened_of.result _ _ _ (moment_of g.D.Device c.args.device.now) (moment_of g.D.Device c.open.new.device) c.unopened_of.ensures calls.state calls.count.later r (λ block is. c.in-Err.ensures.at_rest before r block (ap Err is))
 
 pub returns-in-Ok-clause-unopened : goal.returns-in-Ok-clause-unopened
 returns-in-Ok-clause-unopened g c = λ b fails.

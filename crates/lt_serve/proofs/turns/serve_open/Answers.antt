@@ -4,6 +4,7 @@ use Rattle.lt_serve.proofs.CallLaws.{fails-behind, fails-still, gives-behind, gi
 use Rattle.lt_serve.proofs.SendLaws.{gains_some-none, gains_some-more}
 use Rattle.lt_serve.proofs.SizeLaws.{sizes-same, sizes-more, stops-same}
 use Rattle.lt_serve.proofs.turns.serve_open.Goals as goal
+use Rattle.lt_serve.specs.Promise.{moment_of}
 use Rattle.lt_serve.specs.View.{kept_in, store_in}
 use Rattle.lt_serve.proofs.SightLaws.{served-none, serves-last, serves-more, serves-still}
 
@@ -32,7 +33,7 @@ pub returns-in-Err-clause-over : goal.returns-in-Err-clause-over
 returns-in-Err-clause-over g c = λ before opened.
     let so_far = c.loop-number.invariant in
     let t = so_far.on before opened in
-    turned-last _ before _ _ _ _ _ _ _ _ t _ so_far.sizes.extents _ _ _ c.in-Err.served _ _ _ so_far.sink_later (c.in-Err.ensures.over.0 before t.taken t.on.added (g.D.Device.state c.args.device.now))
+    turned-last _ before _ _ _ _ _ _ _ _ t _ so_far.sizes.extents _ _ _ c.in-Err.served _ _ _ so_far.sink_later (c.in-Err.ensures.over.0 before t.taken t.on.added (moment_of g.D.Device c.args.device.now))
 
 pub loop-number-preserved : goal.loop-number-preserved
 loop-number-preserved g c =
@@ -53,7 +54,7 @@ loop-number-preserved g c =
           serves-more _ _ _ _ _ _ _ _ _ _ m _ _ _ _ _ (turn.on.1 (store_in c.args.session.now) image m.0 m.2.added (g.D.Device.state c.args.device.now) shown m.2.lines);
       on = λ before opened.
           let t = so_far.on before opened in
-          turned-more _ before _ _ _ _ _ _ _ _ t _ so_far.sizes.extents _ _ _ _ _ (turn.on.0 before t.taken t.on.added (g.D.Device.state c.args.device.now));
+          turned-more _ before _ _ _ _ _ _ _ _ t _ so_far.sizes.extents _ _ _ _ _ (turn.on.0 before t.taken t.on.added (moment_of g.D.Device c.args.device.now));
     }
 
 pub returns-clause-over : goal.returns-clause-over

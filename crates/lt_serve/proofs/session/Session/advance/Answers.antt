@@ -6,6 +6,7 @@ use Rattle.lt_line.specs.Held.{HeldLine}
 use Rattle.lt_line.specs.Waiting.{Waiting}
 use Rattle.lt_store.specs.Open.{extents_of}
 use Rattle.lt_serve.specs.Rounds.{Stopped, Went}
+use Rattle.lt_serve.specs.Promise.{moment_of}
 use Rattle.lt_serve.specs.View.{kept_in, store_in}
 use Rattle.lt_serve.proofs.CallLaws.{acts-ok, acts-fail}
 use Rattle.lt_serve.proofs.SizeLaws.{sizes-same}
@@ -22,8 +23,8 @@ pub returns-in_err-answer-clause-err : goal.returns-in_err-answer-clause-err
 returns-in_err-answer-clause-err g c =
     let s = c.args.self.now in
     let piece = c.args.piece.now in
-    let device = g.D.Device.state c.args.device.now in
-    let after = g.D.Device.state c.answer.new.device in
+    let device = moment_of g.D.Device c.args.device.now in
+    let after = moment_of g.D.Device c.answer.new.device in
     let held = c.answer.new.self.lines in
     let out : List ℕ = c.answer.new.out.settled_text in
     let n = c.feed-taken.result in
@@ -53,15 +54,15 @@ pub returns-in_ok-answer-clause-ok : goal.returns-in_ok-answer-clause-ok
 returns-in_ok-answer-clause-ok g c = (
   (λ v durable bytes waiting0 start opened same went.
       let s = c.args.self.now in
-      let device = g.D.Device.state c.args.device.now in
-      let after = g.D.Device.state c.answer.new.device in
+      let device = moment_of g.D.Device c.args.device.now in
+      let after = moment_of g.D.Device c.answer.new.device in
       let ends = c.feed-taken.ensures.ends (sym c.ready.ensures ∙ c.if-ready.true) in
       let now = after_writes durable (take went.goes.sure (v.log.pending ++ went.writes)) in
       let answered = c.in_ok-answer.ensures.ok _ now (kept-line v durable bytes ends.chunk (kept_in s) c.feed-taken.new.self.kept s.wrote waiting0 c.args.out.now (store_in s) start device went ends.kept_is) went.goes.opened in
       let line : [] ≡ kept_in c.answer.new.self = sym c.in_ok-answer.ensures.next in
       subst (λ (kept : List ℕ). Went v durable (bytes ++ take c.feed-taken.result c.args.piece.now) kept c.answer.new.self.wrote waiting0 c.answer.new.out (store_in c.answer.new.self) start after) line
       (subst (λ (taken : List ℕ). Went v durable (bytes ++ taken) [] c.answer.new.self.wrote waiting0 c.answer.new.out (store_in c.answer.new.self) start after) (sym ends.taken_is)
-      (went-line v durable bytes ends.chunk (kept_in s) s.wrote waiting0 c.args.out.now (store_in s) start device went ends.unbroken c.answer.new.out (store_in c.answer.new.self) after c.answer.new.self.wrote answered same))),
+      (went-line v durable bytes ends.chunk (kept_in s) s.wrote waiting0 c.args.out.now (store_in s) start device went opened ends.unbroken c.answer.new.out (store_in c.answer.new.self) after c.answer.new.self.wrote answered same))),
   (λ v image before waiting0 start shown s.
       let self = c.args.self.now in
       let device = g.D.Device.state c.args.device.now in
@@ -78,7 +79,7 @@ pub returns-else-ready-clause-ok : goal.returns-else-ready-clause-ok
 returns-else-ready-clause-ok g c = (
   (λ v durable bytes waiting0 start opened same went.
       let s = c.args.self.now in
-      let device = g.D.Device.state c.args.device.now in
+      let device = moment_of g.D.Device c.args.device.now in
       let piece = c.args.piece.now in
       let all = c.feed-taken.ensures.goes_on (sym c.ready.ensures ∙ c.if-ready.false) in
       let whole : piece ≡ take c.feed-taken.result piece = sym (take_all c.feed-taken.result piece (omega (arith, all.0))) in

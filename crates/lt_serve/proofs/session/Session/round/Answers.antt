@@ -4,6 +4,7 @@ use Rattle.lt_line.specs.Waiting.{Waiting}
 use Rattle.lt_store.specs.Open.{StoreView, extents_of}
 use Rattle.lt_store.specs.View.{view_of}
 use Rattle.lt_serve.specs.declared.faults.RoundFault.TheVariants.{Device}
+use Rattle.lt_serve.specs.Promise.{moment_of}
 use Rattle.lt_serve.specs.Rounds.{Stopped, all_text}
 use Rattle.lt_serve.specs.Sizes.{SameSizes}
 use Rattle.lt_serve.specs.View.{kept_in, store_in}
@@ -18,8 +19,8 @@ use Rattle.lt_serve.proofs.SeeingLaws.{fails-commit, round-sees}
 pub returns-in-Err-clause-err : goal.returns-in-Err-clause-err
 returns-in-Err-clause-err g c = λ durable line opened free held.
     let e = extents_of (store_in c.args.self.now) in
-    let device = g.D.Device.state c.args.device.now in
-    let after = g.D.Device.state c.act_all.new.device in
+    let device = moment_of g.D.Device c.args.device.now in
+    let after = moment_of g.D.Device c.act_all.new.device in
     subst (λ (waiting0 : Waiting). Stopped e durable (line ++ c.args.piece.now) c.act_all.new.self.lines c.in-Err.fault waiting0 c.drop_unsettled.new.self.settled_text device after) c.settle.ensures
     (subst (λ (settled : List ℕ). Stopped e durable (line ++ c.args.piece.now) c.act_all.new.self.lines c.in-Err.fault c.settle.new.self settled device after) (sym (ap (λ (w : Waiting). w.settled_text) c.drop_unsettled.ensures))
     (c.in-Err.ensures.err.0 durable line opened free held))
@@ -29,9 +30,9 @@ returns-in-Err-committed-clause-err g c = λ durable line opened free held.
     let s = c.args.self.now in
     let w = c.act_all.new.self in
     let piece = c.args.piece.now in
-    let device = g.D.Device.state c.args.device.now in
-    let mid = g.D.Device.state c.act_all.new.device in
-    let after = g.D.Device.state c.commit-committed.new.device in
+    let device = moment_of g.D.Device c.args.device.now in
+    let mid = moment_of g.D.Device c.act_all.new.device in
+    let after = moment_of g.D.Device c.commit-committed.new.device in
     let n = c.in-Ok.taken in
     let nothing = (s.idle c.requires.up).durable in
     let went = c.in-Ok.ensures.ok.0 durable line opened free held in
@@ -40,20 +41,20 @@ returns-in-Err-committed-clause-err g c = λ durable line opened free held.
     subst (λ (waiting0 : Waiting). Stopped (extents_of (store_in s)) durable (line ++ piece) w.lines Device waiting0 c.drop_unsettled-in-Err-committed.new.self.settled_text device after) c.settle.ensures
     (subst (λ (bytes : List ℕ). Stopped (extents_of (store_in s)) durable bytes w.lines Device c.settle.new.self c.drop_unsettled-in-Err-committed.new.self.settled_text device after) (taken-and-rest line piece n)
     (stopped-commit (store_in s) durable (line ++ take n piece) (kept_in w) w.wrote c.settle.new.self c.act_all.new.out (store_in w) device mid went nothing (drop n piece) c.drop_unsettled-in-Err-committed.new.self.settled_text w.lines Device after
-    (lost-commit (store_in w) now mid after (c.in-Err-committed.ensures.broken now went.goes.opened) (c.commit-committed.ensures.rooted now went.goes.opened)) settled c.in-Ok.ensures.acting.open_line refl (λ some. c.in-Ok.ensures.taken.enough (some-left piece n some))))
+    (lost-commit (store_in w) now mid after went.goes.opened (omega (arith, c.in-Err-committed.ensures.calls.count)) (c.in-Err-committed.ensures.broken now went.goes.opened) (c.commit-committed.ensures.rooted now went.goes.opened)) settled c.in-Ok.ensures.acting.open_line refl (λ some. c.in-Ok.ensures.taken.enough (some-left piece n some))))
 
 pub returns-clause-ok : goal.returns-clause-ok
 returns-clause-ok g c = λ durable line opened free held.
     let s = c.args.self.now in
     let w = c.act_all.new.self in
-    let device = g.D.Device.state c.args.device.now in
-    let mid = g.D.Device.state c.act_all.new.device in
-    let after = g.D.Device.state c.commit-committed.new.device in
+    let device = moment_of g.D.Device c.args.device.now in
+    let mid = moment_of g.D.Device c.act_all.new.device in
+    let after = moment_of g.D.Device c.commit-committed.new.device in
     let nothing = (s.idle c.requires.up).durable in
     let went = c.in-Ok.ensures.ok.0 durable line opened free held in
     let now = after_writes durable (take went.goes.sure ((store_in s).log.pending ++ went.writes)) in
     round-after (store_in s) durable (line ++ take c.in-Ok.taken c.args.piece.now) (kept_in w) w.wrote c.settle.new.self c.act_all.new.out (store_in w) device mid went nothing
-    (view_of c.commit-committed.new.self) after (c.in-Ok-committed.ensures.opened now went.goes.opened) (c.commit-committed.ensures.rooted now went.goes.opened) (λ idle. ap g.D.Device.state (c.commit-committed.ensures.idle idle).1) (ap (λ (v : StoreView). v.log.pending) c.in-Ok-committed.ensures.ok)
+    (view_of c.commit-committed.new.self) after (c.in-Ok-committed.ensures.opened now went.goes.opened) (c.commit-committed.ensures.rooted now went.goes.opened) (λ idle. ap g.D.Device.state (c.commit-committed.ensures.idle idle).1) (omega (arith, c.in-Ok-committed.ensures.calls.count)) (ap (λ (v : StoreView). v.log.pending) c.in-Ok-committed.ensures.ok)
     c.args.out.now c.settle-2.new.self c.settle.ensures c.settle-2.ensures
 
 pub returns-in-Err-committed-clause-device : goal.returns-in-Err-committed-clause-device
