@@ -19,7 +19,7 @@ use Rattle.lt_store.specs.declared.acting.EventView.{EventView}
 use Rattle.lt_store.specs.Acting.{MayAct, command_of}
 use Rattle.lt_store.specs.Going.{Goes, Survives}
 use Rattle.lt_store.specs.Open.{StoreView, extents_of, state_of}
-use Rattle.lt_store.specs.Promise.{IsRooted, Rests}
+use Rattle.lt_store.specs.Promise.{AtRest}
 use Rattle.lt_serve.specs.Promise.{KeepsPast, Moment, OnStat, ReadsRise, Runs, TellsCounts, is_ok}
 
 -- What the reply to a command tells, where it is a `STAT`: the count of reads, which does not fall, and the tables and
@@ -37,8 +37,6 @@ pub record Answers (v : StoreView) (durable : State) (command : Command) (taken 
   pub writes : List Item
   pub runs : Runs (extents_of v) (state_of v durable) (command ∷ []) (reply ∷ []) writes
   pub goes : Goes v writes w durable old.state new.state
-  -- each image since names the root alone
-  pub rooted : Leaves IsRooted old.state new.state
   -- where nothing was pending and no write was taken, the device is as before
   pub quiet : v.log.pending ≡ [] → writes ≡ [] → new.state ≡ old.state
   -- what it tells, where it is a `STAT`
@@ -52,9 +50,7 @@ pub record Answers (v : StoreView) (durable : State) (command : Command) (taken 
 pub record Lost (v : StoreView) (durable : State) (fault : RoundFault) (old new : Moment) : Type 0 where
   pub lost : IsLost fault
   pub survives : Survives v [] durable old.state new.state
-  -- each image since names the root alone
-  pub rooted : Leaves IsRooted old.state new.state
-  pub rests : fault ≡ faults.NoMemory → (sure : ℕ) × Rests (after_writes durable (take sure v.log.pending)) new.state
+  pub rests : fault ≡ faults.NoMemory → (sure : ℕ) × AtRest (after_writes durable (take sure v.log.pending)) new.state
   -- and the count of reads did not fall
   pub counts : TellsCounts durable [] [] old new
 
@@ -70,8 +66,6 @@ pub record Answered (v : StoreView) (durable : State) (command : Command) (wrote
   pub writes : List Item
   pub runs : Runs (extents_of v) (state_of v durable) (command ∷ []) (reply ∷ []) writes
   pub goes : Goes v writes w durable old.state new.state
-  -- each image since names the root alone
-  pub rooted : Leaves IsRooted old.state new.state
   -- where nothing was pending and no write was taken, the device is as before
   pub quiet : v.log.pending ≡ [] → writes ≡ [] → new.state ≡ old.state
   -- what it tells, where it is a `STAT`

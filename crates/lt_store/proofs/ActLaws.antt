@@ -26,21 +26,17 @@ use Rattle.lt_language.specs.Replies as replies
 use Rattle.lt_language.specs.Replies.{Reply}
 use Rattle.lt_store.specs.Going.{Goes}
 use Rattle.lt_store.specs.Open.{StoreView, IsOpen}
-use Rattle.lt_store.specs.Promise.{IsReplyTo, IsRooted, IsWriteReply}
+use Rattle.lt_store.specs.Promise.{IsReplyTo, IsWriteReply}
 use Rattle.lt_store.specs.Taking.{accepted_by}
 use Rattle.lt_device.specs.declared.device.Device.{Ghosts}
-use Rattle.lt_store.specs.Writing.{WhileRooted, Writes}
+use Rattle.lt_store.specs.Writing.{InPlace, Writes}
 use Rattle.lt_store.proofs.GoLaws.{goes-none}
-use Rattle.lt_store.proofs.RootedLaws.{rooted-none}
 use Rattle.lt_image.proofs.KeptLaws.{no_writes}
 
 -- ---- calls that ask
 
 pub asks-goes : (v w : StoreView) (d : State) (s t : told.State) → w ≡ v → t ≡ s → IsOpen v d s → Goes v [] w d s t
 asks-goes v w d s t same kept o = subst (λ x. Goes v [] x d s t) (sym same) (subst (λ e. Goes v [] v d s e) (sym kept) (goes-none v d s o))
-
-pub asks-rooted : (v : StoreView) (d : State) (s t : told.State) → t ≡ s → IsOpen v d s → Leaves IsRooted s t
-asks-rooted v d s t kept o = subst (λ e. Leaves IsRooted s e) (sym kept) (rooted-none v d s o)
 
 pub stat-step : (e : ℕ) (s : State) (stat : Stat) (page : List ℕ) → stat.writes ≡ s.writes → stat.tables + stat.free ≤ e → IsStep e s (Some commands.stat) (reply_of (outcomes.Stat stat) page) (after_writes s [])
 stat-step e s stat page number within = ((number, within), no_writes s)
@@ -179,9 +175,8 @@ module _ {T : Type 0} (D : Ghosts T) (item : Item) (v w : StoreView) (call : Res
     full_images = λ needed free is. h.full_images needed free (same.to (taken.Full needed free) is);
   }
 
-  pub event-rooted : WhileRooted D (Some item) v w (λ t. call ≡ Ok t) (λ f. IsErrOf call f) old new → WhileRooted D (Some item) v w (λ t. event ≡ Ok (outcomes.Taken t)) (λ f. IsErrOf event f) old new
-  event-rooted h = record {
-    rooted = h.rooted;
+  pub event-in-place : InPlace D (Some item) v w (λ t. call ≡ Ok t) (λ f. IsErrOf call f) old new → InPlace D (Some item) v w (λ t. event ≡ Ok (outcomes.Taken t)) (λ f. IsErrOf event f) old new
+  event-in-place h = record {
     flushed = λ due is. h.flushed due (same.to taken.Ok is);
     full_same = λ needed free is. h.full_same needed free (same.to (taken.Full needed free) is);
     full_quiet = λ needed free is. h.full_quiet needed free (same.to (taken.Full needed free) is);
@@ -190,10 +185,9 @@ module _ {T : Type 0} (D : Ghosts T) (item : Item) (v w : StoreView) (call : Res
   }
 
 -- an event that writes nothing
-pub none-rooted : {T : Type 0} (D : Ghosts T) (v w : StoreView) (event : Result Outcome WriteFault) (old new : T) → ((needed free : ℕ) → event ≡ Ok (outcomes.Taken (taken.Full needed free)) → ⊥)
-    → ((d : State) → IsOpen v d (D.state old) → Leaves IsRooted (D.state old) (D.state new)) → WhileRooted D None v w (λ t. event ≡ Ok (outcomes.Taken t)) (λ f. IsErrOf event f) old new
-none-rooted D v w event old new other rooted = record {
-  rooted = rooted;
+pub none-in-place : {T : Type 0} (D : Ghosts T) (v w : StoreView) (event : Result Outcome WriteFault) (old new : T) → ((needed free : ℕ) → event ≡ Ok (outcomes.Taken (taken.Full needed free)) → ⊥)
+    → InPlace D None v w (λ t. event ≡ Ok (outcomes.Taken t)) (λ f. IsErrOf event f) old new
+none-in-place D v w event old new other = record {
   flushed = tt;
   full_same = tt;
   full_quiet = λ needed free is. absurd (other needed free is);

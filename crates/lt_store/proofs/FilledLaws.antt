@@ -14,17 +14,14 @@ use Rattle.lt_tables.specs.Table.{newest}
 use Rattle.lt_store.specs.Building.{HasTable, InExtents}
 use Rattle.lt_store.specs.Flushing.{AreFree, IsPrepared, SomeKept, Stays}
 use Rattle.lt_store.specs.Open.{IsOpen, StoreView}
-use Rattle.lt_store.specs.Promise.{IsRooted}
 use Rattle.lt_store.proofs.CommitLaws.{kept-fits}
 use Rattle.lt_store.proofs.FlushLaws.{Fits, KeepsOthers, cleared-fits, clearing-stays, cleared-open, with_kept, building-stays, built-open}
 use Rattle.lt_store.proofs.MomentLaws.{same-stays}
 use Rattle.lt_store.proofs.PrepareLaws.{empty-there, prepared, stays-joins}
-use Rattle.lt_store.proofs.RootedLaws.{rooted-joins, same-rooted}
 
 -- the store after both, and each image since
 pub record IsFilled (v : StoreView) (d : State) (s0 s1 s2 : told.State) (log : LogState) (numbers : List ℕ) (g : Geometry) (filters : List (Option (List ℕ))) : Type 0 where
   pub stays : Stays d s0 s2
-  pub rooted : Leaves IsRooted s0 s2
   pub opened : IsOpen (with_kept (record v { log = log }) filters) d s2
   -- what the commit of the manifest begins with
   pub ready : (parts : List (List Item)) → ((writes : ℕ) (left : Image) → MayLeave s1 left → HasLog v.log.geometry (other_area v.log.area) writes [] left)
@@ -34,9 +31,6 @@ pub record IsFilled (v : StoreView) (d : State) (s0 s1 s2 : told.State) (log : L
 -- clearing alone
 pub cleared-stays : (v : StoreView) (d : State) (s0 s1 : told.State) → SomeKept v → (o : IsOpen v d s0) → ConfinedTo (InLogArea v.log.geometry (other_area v.log.area)) s0 s1 → Stays d s0 s1
 cleared-stays v d s0 s1 k o clearing = same-stays v d s0 s1 o (clearing-stays v d s0 s1 o (kept-fits v d s0 k.taken _ _ o k.kept) clearing)
-
-pub cleared-rooted : (v : StoreView) (d : State) (s0 s1 : told.State) → SomeKept v → (o : IsOpen v d s0) → ConfinedTo (InLogArea v.log.geometry (other_area v.log.area)) s0 s1 → Leaves IsRooted s0 s1
-cleared-rooted v d s0 s1 k o clearing = same-rooted v d s0 s1 o (clearing-stays v d s0 s1 o (kept-fits v d s0 k.taken _ _ o k.kept) clearing)
 
 pub filled : (v : StoreView) (d : State) (s0 s1 s2 : told.State) (log : LogState) (numbers : List ℕ) (g : Geometry) (filters : List (Option (List ℕ)))
     → SomeKept v → AreFree v.named numbers → log ≡ record v.log { cleared = true } → ConfinedTo (InLogArea v.log.geometry (other_area v.log.area)) s0 s1 → UnsyncedIn (λ _. ⊥) s1
@@ -51,7 +45,6 @@ filled v d s0 s1 s2 log numbers g filters k free log_is clearing sure g_is build
     let o2 : IsOpen (with_kept x filters) d s2 = built-open x d numbers filters s1 s2 o1 fits1 free others inside in
     record {
       stays = stays-joins d s0 s1 s2 (same-stays x d s1 s2 o1 same) (cleared-stays v d s0 s1 k o clearing);
-      rooted = rooted-joins s0 s1 s2 (same-rooted x d s1 s2 o1 same) (cleared-rooted v d s0 s1 k o clearing);
       opened = o2;
       ready = λ parts empty tables are.
           prepared x d numbers parts filters s1 s2 o1 o2 fits.area_small inside (empty-there v s1 fits empty)

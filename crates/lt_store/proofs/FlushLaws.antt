@@ -30,7 +30,6 @@ use Rattle.lt_image.specs.Standing.{bad_blocks, Stands, is_free_block}
 use Rattle.lt_image.proofs.CountLaws.{flushes}
 use Rattle.lt_image.proofs.LocalLaws.{local-stands}
 use Rattle.lt_image.proofs.OpenLaws.{is-opens}
-use Rattle.lt_image.proofs.RootLaws.{root-flush}
 use Rattle.lt_image.proofs.StandLaws.{flush-stands}
 use Rattle.lt_search.specs.Kept.{KeepsFilter}
 use Rattle.lt_search.proofs.KeepLaws.{inner-flush, inner-named}
@@ -73,7 +72,7 @@ cleared-open v d old new o fits run sure =
     let now : ShownNow new = same.shows o.rest.image o.rest.shown o.rest.tells in
     let ready : IsReady v d o.groups now.image = same-ready v d o.groups o.rest.image now.image fits.area (same.now now.image now.tells) (open-ready v d old o) in
     let steady = open-steady v d old o in
-    open-from (cleared v) d new o.groups now (record { slots = steady.slots; memory = steady.memory; root_only = steady.root_only }) (record { names = ready.names; stands = ready.stands; log = ready.log; filters = ready.filters })
+    open-from (cleared v) d new o.groups now (record { slots = steady.slots; memory = steady.memory }) (record { names = ready.names; stands = ready.stands; log = ready.log; filters = ready.filters })
     (sure-agrees (λ n. IsTrue (is_free_block v.named n)) new now sure)
 
 -- ---- tables in free extents
@@ -126,7 +125,7 @@ built-open v d numbers kept old new o fits free others run =
     let n = run.now left may in
     same_outside_widens _ free_blocks base left (λ k either. ⊎_elim (λ f. f) (free-block v.named numbers free k) either) (same_outside_joins free_blocks (InExtents v.named.geometry numbers) base n.image left (open-agrees v d old o n.image n.was) n.same) in
     let steady = open-steady v d old o in
-    open-from (with_kept v kept) d new o.groups now (record { slots = steady.slots; memory = steady.memory; root_only = steady.root_only })
+    open-from (with_kept v kept) d new o.groups now (record { slots = steady.slots; memory = steady.memory })
     (record {
       names = ready.names;
       stands = ready.stands;
@@ -229,7 +228,7 @@ module _ (v : StoreView) (d : State) (old new : told.State) (o : IsOpen v d old)
       let all : AllByRecursion (KeepsFilter g v.kept shown) (inner_of n) = inner-flush (KeepsFilter g v.kept shown) g.levels v.named.manifest.trie numbers o.filters kept in
       let filters : AllByRecursion (KeepsFilter g v.kept now.image) (inner_of n) = subst (λ (f : ℕ → ℕ → List ℕ). AllByRecursion (λ x. slice_index_or v.kept x None ≡ Some (f x 64)) (inner_of n)) extents all in
       open-from (flushed v n header) d new [] now
-      (record { slots = refl; memory = refl; root_only = record { only = root-flush v.named.manifest.trie numbers o.root_only.only } })
+      (record { slots = refl; memory = refl })
       (record { names = has.names; stands = new-stands area now.image has; log = log'; filters = filters })
       (sure-agrees (λ k. IsTrue (is_free_block n k)) new now sure)
 

@@ -125,7 +125,7 @@ module _ (v : StoreView) (d : State) (old new : told.State) (o : IsOpen v d old)
       let filters_near : AllByRecursion (KeepsFilter g v.kept near.image) (inner_of v.named) = same-filters v.named v.kept o.rest.image near.image base_same o.filters in
       let filters : AllByRecursion (KeepsFilter g v.kept now.image) (inner_of v.named) = subst (λ (f : ℕ → ℕ → List ℕ). AllByRecursion (λ x. slice_index_or v.kept x None ≡ Some (f x 64)) (inner_of v.named)) extents filters_near in
       open-from (committed v) (after_writes d v.log.pending) new groups now
-      (record { slots = groups_with-length o.groups v.log.slots v.log.pending o.slots; memory = o.memory ∙ sym (groups_with-items o.groups v.log.pending) ∙ sym (append-nil (items_in groups)); root_only = o.root_only })
+      (record { slots = groups_with-length o.groups v.log.slots v.log.pending o.slots; memory = o.memory ∙ sym (groups_with-items o.groups v.log.pending) ∙ sym (append-nil (items_in groups)) })
       (record {
         names = record { read = manifest-local near.image now.image near.same.size (low-slot g area v.log.slots near.image now.image near.same) ∙ names.read };
         stands = grown v d old o fits within near.image now.image groups v.log.pending near.was near.same (log_at now.image groups log) (groups_with-items o.groups v.log.pending);

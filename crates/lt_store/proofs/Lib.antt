@@ -17,7 +17,6 @@ pub mod NumberLaws
 pub mod OpenLaws
 pub mod PrepareLaws
 pub mod ReserveLaws
-pub mod RootedLaws
 pub mod SameLaws
 pub mod SeenLaws
 pub mod StopLaws

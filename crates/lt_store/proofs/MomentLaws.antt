@@ -18,7 +18,6 @@ use Rattle.lt_image.specs.Standing.{Stands, is_free_block}
 use Rattle.lt_search.specs.Kept.{KeepsFilter}
 use Rattle.lt_store.specs.Flushing.{Stays}
 use Rattle.lt_store.specs.Open.{IsOpen, StoreView, inner_of}
-use Rattle.lt_store.specs.Promise.{IsRootOnly}
 use Rattle.lt_store.proofs.SameLaws.{Same, same-trans, same-names, same-stands, same-log, same-filters, same-free}
 use Rattle.lt_image.proofs.OpenLaws.{is-opens}
 use Rattle.lt_image.specs.Versions.{open_image}
@@ -34,10 +33,9 @@ pub record IsReady (v : StoreView) (d : State) (groups : List (List Item)) (imag
 pub record IsSteady (v : StoreView) (groups : List (List Item)) : Type 0 where
   pub slots : v.log.slots ≡ length groups
   pub memory : v.memory ≡ items_in groups ++ v.log.pending
-  pub root_only : IsRootOnly v.named.manifest.trie
 
 pub open-steady : (v : StoreView) (d : State) (s : told.State) (o : IsOpen v d s) → IsSteady v o.groups
-open-steady v d s o = record { slots = o.slots; memory = o.memory; root_only = o.root_only }
+open-steady v d s o = record { slots = o.slots; memory = o.memory }
 
 pub open-names : (v : StoreView) (d : State) (s : told.State) (o : IsOpen v d s) → Names v.named o.rest.image
 open-names v d s o = subst (λ n. Names n o.rest.image) o.named o.rest.names
@@ -71,7 +69,6 @@ open-from v d s groups now steady ready agree = record {
   slots = steady.slots;
   memory = steady.memory;
   filters = ready.filters;
-  root_only = steady.root_only;
 }
 
 -- ---- calls that change nothing that the manifest names
@@ -113,7 +110,6 @@ open-alike v d s up taken o = record {
   slots = o.slots;
   memory = o.memory;
   filters = o.filters;
-  root_only = o.root_only;
 }
 
 -- what the image of an open store opens as

@@ -26,7 +26,7 @@ use Rattle.lt_search.specs.Kept.{KeepsFilter}
 use Rattle.lt_search.specs.Kept.{KeepsExactly, inner_tables}
 use Rattle.lt_search.proofs.KeepLaws.{inner-few}
 use Rattle.lt_store.specs.Open.{StoreView, IsOpen, blocks_of, inner_of}
-use Rattle.lt_store.specs.Promise.{AtRest, IsRootOnly}
+use Rattle.lt_store.specs.Promise.{AtRest}
 use Rattle.lt_store.specs.Reading.{Reads, IsBelowExtents, Assembles, log_at}
 
 -- ---- the manifest
@@ -82,8 +82,8 @@ rest-named v s d r reads =
     ok_same r.named q.opened.named (sym r.names.read ∙ parts.named) ∙ sym q.named_is
 
 -- and is open on a device at rest
-pub rest-open : (v : StoreView) (s : State) (d : told.State) (r : AtRest s d) → IsRootOnly r.named.manifest.trie → ForSome d.shown (Reads v) → IsOpen v s d
-rest-open v s d r only reads =
+pub rest-open : (v : StoreView) (s : State) (d : told.State) (r : AtRest s d) → ForSome d.shown (Reads v) → IsOpen v s d
+rest-open v s d r reads =
     let q : Reads v r.image = reads r.image r.shown in
     let parts = opens-is r.image q.opened q.opens in
     let here : r.named ≡ v.named = rest-named v s d r reads in
@@ -98,7 +98,6 @@ rest-open v s d r only reads =
       slots = ap (λ l. l.slots) q.log;
       memory = q.memory ∙ sym (append-nil (items_in q.opened.groups)) ∙ ap (λ xs. items_in q.opened.groups ++ xs) (sym (ap (λ l. l.pending) q.log));
       filters = subst (λ n. AllByRecursion (KeepsFilter n.geometry v.kept r.image) (inner_of n)) (sym q.named_is) q.filters.each;
-      root_only = subst (λ n. IsRootOnly n.manifest.trie) here only;
     }
 
 -- ---- where damage lies

@@ -11,7 +11,7 @@ use Rattle.lt_redo.specs.LogState.{LogState}
 use Rattle.lt_redo.specs.Slots.{HasLog}
 use Rattle.lt_image.specs.Standing.{after_writes}
 use Rattle.lt_search.specs.Kept.{KeepsFilter, inner_tables}
-use Rattle.lt_store.specs.Promise.{AtRest, IsRootOnly}
+use Rattle.lt_store.specs.Promise.{AtRest}
 
 -- a store as its calls see it; `kept` has the filter blocks of tables, by extent
 pub record StoreView : Type 0 where
@@ -37,7 +37,6 @@ pub record IsOpen (v : StoreView) (durable : State) (device : told.State) : Type
   pub slots : v.log.slots ≡ length groups
   pub memory : v.memory ≡ items_in groups ++ v.log.pending
   pub filters : AllByRecursion (KeepsFilter v.named.geometry v.kept rest.image) (inner_of v.named)
-  pub root_only : IsRootOnly v.named.manifest.trie
 
 -- the state that the store answers for: the durable one, and the pending writes
 abbrev pub state_of : StoreView → State → State

@@ -15,9 +15,9 @@ use Rattle.lt_tables.specs.Bucket.{bucket_of}
 use Rattle.lt_format.specs.declared.geometry.Geometry.{Geometry}
 use Rattle.lt_format.specs.Layout.{extent_block}
 use Rattle.lt_format.specs.Snapshot.{Named}
-use Rattle.lt_format.specs.Trie.{Trie, node_at, path}
+use Rattle.lt_format.specs.Trie.{node_at, path}
 use Rattle.lt_manifest.specs.Promise.{Names, fresh}
-use Rattle.lt_image.specs.Versions.{has_only_root, open_image, Opened, log_items, stops}
+use Rattle.lt_image.specs.Versions.{open_image, Opened, log_items, stops}
 use Rattle.lt_image.specs.Standing.{Stands, is_free_block}
 use Rattle.lt_terms.specs.Items.{Item}
 use Rattle.lt_tables.specs.Table.{newest_of, value_of}
@@ -35,21 +35,6 @@ pub record AtRest (s : State) (device : told.State) : Type 0 where
   pub named : Named
   pub names : Names named image
   pub agree : (left : Image) → MayLeave device left → SameOutside (λ n. IsTrue (is_free_block named n)) image left
-
--- no node but the root has tables
-pub record IsRootOnly (trie : Trie) : Type 0 where
-  pub only : IsTrue (has_only_root trie)
-
--- no node but the root of the image's manifest has tables
-pub record IsRooted (image : Image) : Type 0 where
-  pub named : Named
-  pub names : Names named image
-  pub root_only : IsRootOnly named.manifest.trie
-
--- at rest, and no node but the root has tables
-pub record Rests (s : State) (device : told.State) : Type 0 where
-  pub rest : AtRest s device
-  pub root_only : IsRootOnly rest.named.manifest.trie
 
 -- where the device tells what it reads, nothing stands on block 0
 abbrev pub IsVacant : told.State → Type 0

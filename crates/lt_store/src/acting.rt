@@ -15,7 +15,7 @@ ghost use Rattle.lt_store.specs.Getting.{KeepsBound, seen_of};
 ghost use Rattle.lt_store.specs.Open.{SameRegions, blocks_of};
 ghost use Rattle.lt_store.specs.Taking.{IsFull};
 ghost use Rattle.lt_store.specs.View.{view_of};
-ghost use Rattle.lt_store.specs.Calls.{EventRooted, EventWritten, GoesOn, KeepsGroup, LosesNothing, WhereOpen};
+ghost use Rattle.lt_store.specs.Calls.{EventInPlace, EventWritten, GoesOn, KeepsGroup, LosesNothing, WhereOpen};
 
 use crate::counts::Stat;
 use crate::faults::WriteFault;
@@ -92,7 +92,7 @@ impl Store {
         // A put or a delete.
         ensures writes { IfSome (write_of event.entry) (λ item.
             EventWritten D.Device item self.old self.new result device.old device.new) }
-        ensures while_rooted { EventRooted D.Device (write_of event.entry) self.old self.new result
+        ensures in_place { EventInPlace D.Device (write_of event.entry) self.old self.new result
             device.old device.new }
 
         ensures idle { command_of event.entry ≡ None → self.old.log.pending ≡ []

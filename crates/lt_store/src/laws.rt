@@ -9,7 +9,7 @@ ghost use Rattle.lt_language.specs.Machine.{State, nothing_yet};
 ghost use Rattle.lt_format.specs.declared.geometry.Geometry.{Geometry};
 ghost use Rattle.lt_image.specs.Standing.{Stands, after_writes};
 ghost use Rattle.lt_store.specs.Getting.{seen_of};
-ghost use Rattle.lt_store.specs.Promise.{seen_on, IsFresh, IsRooted, Rests};
+ghost use Rattle.lt_store.specs.Promise.{AtRest, IsFresh, seen_on};
 ghost use Rattle.lt_store.specs.Going.{Goes, Survives, durable_after};
 ghost use Rattle.lt_store.specs.Open.{IsOpen, StoreView, state_of};
 ghost use Rattle.lt_store.specs.Reading.{Reads};
@@ -33,13 +33,11 @@ pub fn goes_compose()
 
 /// A device with an open store on it is at rest, and so is one with a fresh store, and one that a crash left.
 pub fn open_rests()
-    ensures opened { (v : StoreView) (d : State) (s : told.State) → IsOpen v d s → Rests d s }
-    ensures rooted { (v : StoreView) (d : State) (s : told.State) → IsOpen v d s → (left : Image)
-        → MayLeave s left → IsRooted left }
+    ensures opened { (v : StoreView) (d : State) (s : told.State) → IsOpen v d s → AtRest d s }
     ensures crashed { (d : State) (s : told.State) (image : Image) → s.shown ≡ Some image
-        → MayLeave s image → UnsyncedIn (λ _. ⊥) s → Stands image d → IsRooted image → Rests d s }
+        → MayLeave s image → UnsyncedIn (λ _. ⊥) s → Stands image d → AtRest d s }
     ensures seen { (v : StoreView) (image : Image) (r : Reads v image) (key : List ℕ)
         → seen_of v image key ≡ seen_on r.opened image key }
     ensures fresh { (g : Geometry) (extents : ℕ) (s : told.State) → IsFresh g extents s
-        → Rests nothing_yet s }
+        → AtRest nothing_yet s }
 {}

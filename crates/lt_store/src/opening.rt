@@ -14,7 +14,7 @@ ghost use Rattle.lt_format.specs.Layout.{is_geometry};
 ghost use Rattle.lt_format.specs.Snapshot.{manifest_of, IsManifest};
 ghost use Rattle.lt_format.specs.Trie.{named};
 ghost use Rattle.lt_search.specs.Kept.{KeepsExactly};
-ghost use Rattle.lt_store.specs.Promise.{StopsOpening, AtRest, Rests};
+ghost use Rattle.lt_store.specs.Promise.{StopsOpening, AtRest};
 ghost use Rattle.lt_store.specs.Open.{IsOpen, blocks_in, blocks_of, extents_of, inner_of};
 ghost use Rattle.lt_store.specs.Reading.{Reads, IsBelowExtents, Assembles, IsLogOf, HasItemsOf, groups_of};
 ghost use Rattle.lt_store.specs.View.{view_of};
@@ -47,9 +47,9 @@ impl Store {
             (λ store. ForSome (D.state device.old).shown (Reads (view_of store))) }
 
         // On a device at rest it is open for what the device stands for.
-        ensures opened { IfOk result (λ store. (s : State) (r : Rests s (D.state device.old))
+        ensures opened { IfOk result (λ store. (s : State) (r : AtRest s (D.state device.old))
             → IsOpen (view_of store) s (D.state device.new)
-            × (extents_of (view_of store) ≡ r.rest.named.manifest.header.extents)) }
+            × (extents_of (view_of store) ≡ r.named.manifest.header.extents)) }
 
         ensures damaged { (b : ℕ) → IsErrOf result (OpenFault.Damaged b)
             → StopsOpening (D.state device.old) b }

@@ -13,10 +13,9 @@ use Rattle.lt_store.specs.Promise.{StopsGet}
 use Rattle.lt_store.specs.Getting.{AnswersSeen, seen_of}
 use Rattle.lt_store.specs.Open.{StoreView, state_of}
 use Rattle.lt_store.specs.View.{view_of}
-use Rattle.lt_store.proofs.ActLaws.{asks-goes, asks-rooted, event-rooted, event-writes, none-rooted, stat-step, put-step, delete-step, get-bound, refused-goes, same-err, same-key, same-ok, same-stat, tells-fault, tells-none, tells-value, limits, write-kind}
+use Rattle.lt_store.proofs.ActLaws.{asks-goes, event-in-place, event-writes, none-in-place, stat-step, put-step, delete-step, get-bound, refused-goes, same-err, same-key, same-ok, same-stat, tells-fault, tells-none, tells-value, limits, write-kind}
 use Rattle.lt_store.proofs.AnswerLaws.{all-writes}
 use Rattle.lt_store.proofs.GoLaws.{goes-none}
-use Rattle.lt_store.proofs.RootedLaws.{rooted-none}
 use Rattle.lt_store.proofs.WholeLaws.{whole-asked, whole-none, whole-survives}
 use Rattle.lt_store.proofs.store.Store.act.Goals as goal
 use Rattle.lt_terms.proofs.CauseLaws.{OnErr-always}
@@ -25,7 +24,7 @@ use Rattle.lt_terms.proofs.CauseLaws.{OnErr-always}
 
 pub returns-in_err-put-in-Put-clause-goes_on : goal.returns-in_err-put-in-Put-clause-goes_on
 returns-in_err-put-in-Put-clause-goes_on g c = OnErr-always c.from_residual.result (λ is durable opened.
-    refused-goes c.put.new.self.is_up c.put.result c.in_err-put-in-Put.field-0.0 c.in_err-put-in-Put.was c.put.ensures.up c.put.ensures.while_rooted.undamaged _ (λ fault. c.put.ensures.writes.refused fault durable opened) is)
+    refused-goes c.put.new.self.is_up c.put.result c.in_err-put-in-Put.field-0.0 c.in_err-put-in-Put.was c.put.ensures.up c.put.ensures.in_place.undamaged _ (λ fault. c.put.ensures.writes.refused fault durable opened) is)
 
 pub returns-in_err-put-in-Put-clause-broken : goal.returns-in_err-put-in-Put-clause-broken
 returns-in_err-put-in-Put-clause-broken g c = OnErr-always c.from_residual.result (λ durable opened.
@@ -47,7 +46,7 @@ returns-in_ok-put-in-Put-clause-kind g c = rw c.in-Put.is (write-kind (commands.
 
 pub returns-in_err-delete-in-Delete-clause-goes_on : goal.returns-in_err-delete-in-Delete-clause-goes_on
 returns-in_err-delete-in-Delete-clause-goes_on g c = OnErr-always c.from_residual-in_err-delete-in-Delete.result (λ is durable opened.
-    refused-goes c.delete.new.self.is_up c.delete.result c.in_err-delete-in-Delete.field-0.0 c.in_err-delete-in-Delete.was c.delete.ensures.up c.delete.ensures.while_rooted.undamaged _ (λ fault. c.delete.ensures.writes.refused fault durable opened) is)
+    refused-goes c.delete.new.self.is_up c.delete.result c.in_err-delete-in-Delete.field-0.0 c.in_err-delete-in-Delete.was c.delete.ensures.up c.delete.ensures.in_place.undamaged _ (λ fault. c.delete.ensures.writes.refused fault durable opened) is)
 
 pub returns-in_err-delete-in-Delete-clause-broken : goal.returns-in_err-delete-in-Delete-clause-broken
 returns-in_err-delete-in-Delete-clause-broken g c = OnErr-always c.from_residual-in_err-delete-in-Delete.result (λ durable opened.
@@ -162,15 +161,15 @@ returns-in_err-put-in-Put-clause-writes g c =
     let fault = err_from_is_err_and c.from_residual.result c.from_residual.ensures.1 in
     rw c.in-Put.is (event-writes g.D.Device (put_of c.in-Put.key.now c.in-Put.value.now) (view_of c.args.self.now) (view_of c.put.new.self) c.put.result c.from_residual.result (same-err c.put.result c.from_residual.result fault.0 (c.in_err-put-in-Put.was ∙ ap Err (sym fault.2)) fault.1) c.args.device.now c.put.new.device c.put.ensures.writes)
 
-pub returns-in_ok-put-in-Put-clause-while_rooted : goal.returns-in_ok-put-in-Put-clause-while_rooted
-returns-in_ok-put-in-Put-clause-while_rooted g c =
+pub returns-in_ok-put-in-Put-clause-in_place : goal.returns-in_ok-put-in-Put-clause-in_place
+returns-in_ok-put-in-Put-clause-in_place g c =
     let answer = c.in_ok-put-in-Put in
-    rw c.in-Put.is (event-rooted g.D.Device (put_of c.in-Put.key.now c.in-Put.value.now) (view_of c.args.self.now) (view_of c.put.new.self) c.put.result (Ok (outcomes.Taken answer.field-0)) (same-ok c.put.result answer.field-0 answer.was) c.args.device.now c.put.new.device c.put.ensures.while_rooted)
+    rw c.in-Put.is (event-in-place g.D.Device (put_of c.in-Put.key.now c.in-Put.value.now) (view_of c.args.self.now) (view_of c.put.new.self) c.put.result (Ok (outcomes.Taken answer.field-0)) (same-ok c.put.result answer.field-0 answer.was) c.args.device.now c.put.new.device c.put.ensures.in_place)
 
-pub returns-in_err-put-in-Put-clause-while_rooted : goal.returns-in_err-put-in-Put-clause-while_rooted
-returns-in_err-put-in-Put-clause-while_rooted g c =
+pub returns-in_err-put-in-Put-clause-in_place : goal.returns-in_err-put-in-Put-clause-in_place
+returns-in_err-put-in-Put-clause-in_place g c =
     let fault = err_from_is_err_and c.from_residual.result c.from_residual.ensures.1 in
-    rw c.in-Put.is (event-rooted g.D.Device (put_of c.in-Put.key.now c.in-Put.value.now) (view_of c.args.self.now) (view_of c.put.new.self) c.put.result c.from_residual.result (same-err c.put.result c.from_residual.result fault.0 (c.in_err-put-in-Put.was ∙ ap Err (sym fault.2)) fault.1) c.args.device.now c.put.new.device c.put.ensures.while_rooted)
+    rw c.in-Put.is (event-in-place g.D.Device (put_of c.in-Put.key.now c.in-Put.value.now) (view_of c.args.self.now) (view_of c.put.new.self) c.put.result c.from_residual.result (same-err c.put.result c.from_residual.result fault.0 (c.in_err-put-in-Put.was ∙ ap Err (sym fault.2)) fault.1) c.args.device.now c.put.new.device c.put.ensures.in_place)
 
 pub returns-in_ok-delete-in-Delete-clause-writes : goal.returns-in_ok-delete-in-Delete-clause-writes
 returns-in_ok-delete-in-Delete-clause-writes g c =
@@ -182,36 +181,36 @@ returns-in_err-delete-in-Delete-clause-writes g c =
     let fault = err_from_is_err_and c.from_residual-in_err-delete-in-Delete.result c.from_residual-in_err-delete-in-Delete.ensures.1 in
     rw c.in-Delete.is (event-writes g.D.Device (delete_of c.in-Delete.key.now) (view_of c.args.self.now) (view_of c.delete.new.self) c.delete.result c.from_residual-in_err-delete-in-Delete.result (same-err c.delete.result c.from_residual-in_err-delete-in-Delete.result fault.0 (c.in_err-delete-in-Delete.was ∙ ap Err (sym fault.2)) fault.1) c.args.device.now c.delete.new.device c.delete.ensures.writes)
 
-pub returns-in_ok-delete-in-Delete-clause-while_rooted : goal.returns-in_ok-delete-in-Delete-clause-while_rooted
-returns-in_ok-delete-in-Delete-clause-while_rooted g c =
+pub returns-in_ok-delete-in-Delete-clause-in_place : goal.returns-in_ok-delete-in-Delete-clause-in_place
+returns-in_ok-delete-in-Delete-clause-in_place g c =
     let answer = c.in_ok-delete-in-Delete in
-    rw c.in-Delete.is (event-rooted g.D.Device (delete_of c.in-Delete.key.now) (view_of c.args.self.now) (view_of c.delete.new.self) c.delete.result (Ok (outcomes.Taken answer.field-0)) (same-ok c.delete.result answer.field-0 answer.was) c.args.device.now c.delete.new.device c.delete.ensures.while_rooted)
+    rw c.in-Delete.is (event-in-place g.D.Device (delete_of c.in-Delete.key.now) (view_of c.args.self.now) (view_of c.delete.new.self) c.delete.result (Ok (outcomes.Taken answer.field-0)) (same-ok c.delete.result answer.field-0 answer.was) c.args.device.now c.delete.new.device c.delete.ensures.in_place)
 
-pub returns-in_err-delete-in-Delete-clause-while_rooted : goal.returns-in_err-delete-in-Delete-clause-while_rooted
-returns-in_err-delete-in-Delete-clause-while_rooted g c =
+pub returns-in_err-delete-in-Delete-clause-in_place : goal.returns-in_err-delete-in-Delete-clause-in_place
+returns-in_err-delete-in-Delete-clause-in_place g c =
     let fault = err_from_is_err_and c.from_residual-in_err-delete-in-Delete.result c.from_residual-in_err-delete-in-Delete.ensures.1 in
-    rw c.in-Delete.is (event-rooted g.D.Device (delete_of c.in-Delete.key.now) (view_of c.args.self.now) (view_of c.delete.new.self) c.delete.result c.from_residual-in_err-delete-in-Delete.result (same-err c.delete.result c.from_residual-in_err-delete-in-Delete.result fault.0 (c.in_err-delete-in-Delete.was ∙ ap Err (sym fault.2)) fault.1) c.args.device.now c.delete.new.device c.delete.ensures.while_rooted)
+    rw c.in-Delete.is (event-in-place g.D.Device (delete_of c.in-Delete.key.now) (view_of c.args.self.now) (view_of c.delete.new.self) c.delete.result c.from_residual-in_err-delete-in-Delete.result (same-err c.delete.result c.from_residual-in_err-delete-in-Delete.result fault.0 (c.in_err-delete-in-Delete.was ∙ ap Err (sym fault.2)) fault.1) c.args.device.now c.delete.new.device c.delete.ensures.in_place)
 
-pub returns-in_err-len-in-Get-clause-while_rooted : goal.returns-in_err-len-in-Get-clause-while_rooted
-returns-in_err-len-in-Get-clause-while_rooted g c =
-    rw c.in-Get.is (none-rooted g.D.Device (view_of c.args.self.now) (view_of c.get.new.self) c.from_residual-in_err-len-in-Get.result c.args.device.now c.get.new.device (search rules) (λ durable opened. asks-rooted (view_of c.args.self.now) durable (g.D.Device.state c.args.device.now) (g.D.Device.state c.get.new.device) c.get.ensures.calls.state opened))
+pub returns-in_err-len-in-Get-clause-in_place : goal.returns-in_err-len-in-Get-clause-in_place
+returns-in_err-len-in-Get-clause-in_place g c =
+    rw c.in-Get.is (none-in-place g.D.Device (view_of c.args.self.now) (view_of c.get.new.self) c.from_residual-in_err-len-in-Get.result c.args.device.now c.get.new.device (search rules))
 
-pub returns-in-Some-clause-while_rooted : goal.returns-in-Some-clause-while_rooted
-returns-in-Some-clause-while_rooted g c =
-    rw c.in-Get.is (none-rooted g.D.Device (view_of c.args.self.now) (view_of c.get.new.self) (Ok (outcomes.Value c.in-Some.len)) c.args.device.now c.get.new.device (search rules) (λ durable opened. asks-rooted (view_of c.args.self.now) durable (g.D.Device.state c.args.device.now) (g.D.Device.state c.get.new.device) c.get.ensures.calls.state opened))
+pub returns-in-Some-clause-in_place : goal.returns-in-Some-clause-in_place
+returns-in-Some-clause-in_place g c =
+    rw c.in-Get.is (none-in-place g.D.Device (view_of c.args.self.now) (view_of c.get.new.self) (Ok (outcomes.Value c.in-Some.len)) c.args.device.now c.get.new.device (search rules))
 
-pub returns-in-None-clause-while_rooted : goal.returns-in-None-clause-while_rooted
-returns-in-None-clause-while_rooted g c =
-    rw c.in-Get.is (none-rooted g.D.Device (view_of c.args.self.now) (view_of c.get.new.self) (Ok outcomes.Missing) c.args.device.now c.get.new.device (search rules) (λ durable opened. asks-rooted (view_of c.args.self.now) durable (g.D.Device.state c.args.device.now) (g.D.Device.state c.get.new.device) c.get.ensures.calls.state opened))
+pub returns-in-None-clause-in_place : goal.returns-in-None-clause-in_place
+returns-in-None-clause-in_place g c =
+    rw c.in-Get.is (none-in-place g.D.Device (view_of c.args.self.now) (view_of c.get.new.self) (Ok outcomes.Missing) c.args.device.now c.get.new.device (search rules))
 
-pub returns-in-Stat-clause-while_rooted : goal.returns-in-Stat-clause-while_rooted
-returns-in-Stat-clause-while_rooted g c =
-    rw c.in-Stat.is (none-rooted g.D.Device (view_of c.args.self.now) (view_of c.args.self.now) (Ok (outcomes.Stat c.stat.result)) c.args.device.now c.args.device.now (search rules) (λ durable opened. rooted-none (view_of c.args.self.now) durable (g.D.Device.state c.args.device.now) opened))
+pub returns-in-Stat-clause-in_place : goal.returns-in-Stat-clause-in_place
+returns-in-Stat-clause-in_place g c =
+    rw c.in-Stat.is (none-in-place g.D.Device (view_of c.args.self.now) (view_of c.args.self.now) (Ok (outcomes.Stat c.stat.result)) c.args.device.now c.args.device.now (search rules))
 
-pub returns-in_err-commit-in-Commit-clause-while_rooted : goal.returns-in_err-commit-in-Commit-clause-while_rooted
-returns-in_err-commit-in-Commit-clause-while_rooted g c =
-    rw c.in-Commit.is (none-rooted g.D.Device (view_of c.args.self.now) (view_of c.commit.new.self) c.from_residual-in_err-commit-in-Commit.result c.args.device.now c.commit.new.device (search rules) c.commit.ensures.rooted)
+pub returns-in_err-commit-in-Commit-clause-in_place : goal.returns-in_err-commit-in-Commit-clause-in_place
+returns-in_err-commit-in-Commit-clause-in_place g c =
+    rw c.in-Commit.is (none-in-place g.D.Device (view_of c.args.self.now) (view_of c.commit.new.self) c.from_residual-in_err-commit-in-Commit.result c.args.device.now c.commit.new.device (search rules))
 
-pub returns-in_ok-commit-in-Commit-clause-while_rooted : goal.returns-in_ok-commit-in-Commit-clause-while_rooted
-returns-in_ok-commit-in-Commit-clause-while_rooted g c =
-    rw c.in-Commit.is (none-rooted g.D.Device (view_of c.args.self.now) (view_of c.commit.new.self) (Ok outcomes.Committed) c.args.device.now c.commit.new.device (search rules) c.commit.ensures.rooted)
+pub returns-in_ok-commit-in-Commit-clause-in_place : goal.returns-in_ok-commit-in-Commit-clause-in_place
+returns-in_ok-commit-in-Commit-clause-in_place g c =
+    rw c.in-Commit.is (none-in-place g.D.Device (view_of c.args.self.now) (view_of c.commit.new.self) (Ok outcomes.Committed) c.args.device.now c.commit.new.device (search rules))

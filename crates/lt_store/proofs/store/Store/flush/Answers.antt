@@ -151,7 +151,6 @@ returns-in-Err-clause-lives g c =
     let none = unflushed g.D.Device c.args.self.now c.args.self.now (Ok (Some c.in-Err.short)) c.args.device.now refl c.requires.up (search rules) in
     record {
       stays = none.stays;
-      rooted = none.rooted;
       opened = λ on d o. open-alike (view_of c.args.self.now) d (g.D.Device.state c.args.device.now) c.args.self.now.is_up c.take.new.self o;
       up = none.up;
       writes = refl;
@@ -164,7 +163,6 @@ returns-in-Ok-clause-lives g c =
     let v : StoreView = view_of c.args.self.now in
     record {
       stays = λ d o. c.in-Ok.ensures.stays d (open-alike v d (g.D.Device.state c.args.device.now) false c.take.new.self o);
-      rooted = λ d o. c.flush_into.ensures.installs.rooted d (open-alike v d (g.D.Device.state c.args.device.now) false c.take.new.self o);
       opened = λ ok d o.
           open-alike (view_of c.flush_into.new.self) d (g.D.Device.state c.flush_into.new.device) true c.flush_into.new.self.extents
           (c.in-Ok.ensures.opened d (open-alike v d (g.D.Device.state c.args.device.now) false c.take.new.self o));
@@ -184,7 +182,6 @@ returns-in-Err-NoMemory-clause-lives g c =
     let v : StoreView = view_of c.args.self.now in
     record {
       stays = λ d o. c.flush_into.ensures.stays d (open-alike v d (g.D.Device.state c.args.device.now) false c.take.new.self o);
-      rooted = λ d o. c.flush_into.ensures.installs.rooted d (open-alike v d (g.D.Device.state c.args.device.now) false c.take.new.self o);
       opened = λ none d o.
           open-alike (view_of c.flush_into.new.self) d (g.D.Device.state c.flush_into.new.device) true c.give_back.new.extents
           (c.in-Err-NoMemory.ensures.opened_again (search rules) d (open-alike v d (g.D.Device.state c.args.device.now) false c.take.new.self o));
@@ -199,7 +196,6 @@ returns-clause-lives g c =
     let v : StoreView = view_of c.args.self.now in
     record {
       stays = λ d o. c.flush_into.ensures.stays d (open-alike v d (g.D.Device.state c.args.device.now) false c.take.new.self o);
-      rooted = λ d o. c.flush_into.ensures.installs.rooted d (open-alike v d (g.D.Device.state c.args.device.now) false c.take.new.self o);
       opened = search rules;
       up = search rules;
       writes = search rules;

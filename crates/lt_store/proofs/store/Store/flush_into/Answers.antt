@@ -3,10 +3,9 @@ use Rattle.std.proofs.lemmas.Grind.{common_steps}
 use Rattle.std.proofs.lemmas.Result.{on_ok_weaker}
 use Rattle.lt_store.specs.Open.{IsOpen, StoreView}
 use Rattle.lt_store.specs.View.{view_of}
-use Rattle.lt_store.proofs.FilledLaws.{IsFilled, cleared-rooted, cleared-stays, filled}
+use Rattle.lt_store.proofs.FilledLaws.{IsFilled, cleared-stays, filled}
 use Rattle.lt_store.proofs.FlushLaws.{with_kept}
 use Rattle.lt_store.proofs.PrepareLaws.{free-below, stays-joins}
-use Rattle.lt_store.proofs.RootedLaws.{rooted-joins}
 use Rattle.lt_store.proofs.store.Store.flush_into.Goals as goal
 
 pub build_tables-requires-clause-below : goal.build_tables-requires-clause-below
@@ -21,7 +20,6 @@ returns-in_err-clear_other-clause-stays g c = λ d o. cleared-stays (view_of c.a
 
 pub returns-in_err-clear_other-clause-installs : goal.returns-in_err-clear_other-clause-installs
 returns-in_err-clear_other-clause-installs g c = record {
-  rooted = λ d o. cleared-rooted (view_of c.args.self.now) d _ _ c.requires.reserved.kept o c.clear_other.ensures.confined;
   committed = first_of (search rules, grind (arith, common_steps));
   stays_down = search rules;
   refused = first_of (search rules, grind (arith, common_steps));
@@ -41,13 +39,6 @@ returns-in_err-build_tables-clause-stays g c = λ d o.
 
 pub returns-in_err-build_tables-clause-installs : goal.returns-in_err-build_tables-clause-installs
 returns-in_err-build_tables-clause-installs g c = record {
-  rooted = λ d o.
-      let v : StoreView = view_of c.args.self.now in
-      let s2 = g.D.Device.state c.build_tables.new.device in
-      let f : IsFilled v d (g.D.Device.state c.args.device.now) (g.D.Device.state c.clear_other.new.device) s2 c.clear_other.new.self c.args.numbers.now c.geometry.result.now c.build_tables.new.filters =
-      filled v d _ _ _ c.clear_other.new.self c.args.numbers.now c.geometry.result.now c.build_tables.new.filters c.requires.reserved.kept c.requires.reserved.free c.in_ok-clear_other.ensures.ok
-      c.clear_other.ensures.confined c.in_ok-clear_other.ensures.sure c.geometry.ensures.geometry c.build_tables.ensures.confined c.build_tables.ensures.filters o in
-      f.rooted;
   committed = first_of (search rules, grind (arith, common_steps));
   stays_down = record {
     down = c.requires.down;
@@ -83,13 +74,6 @@ returns-clause-stays g c = λ d o.
 
 pub returns-clause-installs : goal.returns-clause-installs
 returns-clause-installs g c = record {
-  rooted = λ d o.
-      let v : StoreView = view_of c.args.self.now in
-      let s2 = g.D.Device.state c.build_tables.new.device in
-      let f : IsFilled v d (g.D.Device.state c.args.device.now) (g.D.Device.state c.clear_other.new.device) s2 c.clear_other.new.self c.args.numbers.now c.geometry.result.now c.build_tables.new.filters =
-      filled v d _ _ _ c.clear_other.new.self c.args.numbers.now c.geometry.result.now c.build_tables.new.filters c.requires.reserved.kept c.requires.reserved.free c.in_ok-clear_other.ensures.ok
-      c.clear_other.ensures.confined c.in_ok-clear_other.ensures.sure c.geometry.ensures.geometry c.build_tables.ensures.confined c.build_tables.ensures.filters o in
-      rooted-joins _ s2 (g.D.Device.state c.commit_flush.new.device) (c.commit_flush.ensures.installs.rooted d f.opened) f.rooted;
   committed = first_of (search rules, grind (arith, common_steps));
   stays_down =
       let down = c.commit_flush.ensures.installs.stays_down in

@@ -83,6 +83,6 @@ returns-clause-opened g c = λ s r.
     let before = g.D.Device.state c.args.device.now in
     let same = c.inner_filters.ensures.calls.state ∙ c.read_log.ensures.calls.state ∙ c.read_manifest.ensures.calls.state in
     let reads = returns-clause-reads g c in (
-      subst (λ d. IsOpen v s d) (sym same) (rest-open v s before r.rest r.root_only reads),
-      ap (λ (n : Named). n.manifest.header.extents) (sym (rest-named v s before r.rest reads)),
+      subst (λ d. IsOpen v s d) (sym same) (rest-open v s before r reads),
+      ap (λ (n : Named). n.manifest.header.extents) (sym (rest-named v s before r reads)),
     )
