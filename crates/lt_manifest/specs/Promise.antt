@@ -1,5 +1,6 @@
 -- What a manifest in memory is, where a damage of it may lie, and what the images of a commit name, at each moment
 -- and at its end.
+use Rattle.lt_format.specs.Snapshot.{Names}
 use Rattle.std.specs.Prelude.{◌≡◌, ℕ, ◌+◌, ◌<◌, ◌≤◌, ◌^◌, [], IsTrue, ◌⊎◌, Ok, Some}
 use Rattle.lt_format.specs.declared.geometry.Geometry.{Geometry}
 use Rattle.lt_format.specs.Layout.{is_geometry, area_block, snapshot_blocks}
@@ -42,19 +43,6 @@ pub record InSnapshot (block : ℕ) : Type 0 where
   pub area_is : area < 2
   pub first : area_block area ≤ block
   pub last : block < area_block area + snapshot_blocks
-
--- the manifest of a fresh store, in area 0
-abbrev pub fresh : Geometry → ℕ → Named
-fresh g extents = record {
-  geometry = g;
-  area = 0;
-  manifest =
-      record { header = record { log_area = 0; extents = extents; writes = 0 }; trie = [] };
-}
-
--- the image has this geometry, and names this manifest in the area that is current
-pub record Names (named : Named) (image : Image) : Type 0 where
-  pub read : manifest_of image ≡ Ok named
 
 -- the image names the new manifest, and agrees outside the manifest's blocks with what the device showed
 pub record HasNew (named : Named) (shown left : Image) : Type 0 where

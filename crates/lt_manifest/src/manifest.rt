@@ -9,7 +9,8 @@ ghost use Rattle.lt_format.specs.Layout.{is_geometry, blocks_needed};
 ghost use Rattle.lt_format.specs.Snapshot.{extents_stand, snapshot_bytes, InManifest, manifest_in, may_commit};
 ghost use Rattle.lt_format.specs.Snapshot.{after_commit};
 ghost use Rattle.lt_node.specs.Changing.{change_of};
-ghost use Rattle.lt_manifest.specs.Promise.{AnyMoment, Committed, InSnapshot, IsKept, IsOpened, fresh};
+ghost use Rattle.lt_manifest.specs.Promise.{AnyMoment, Committed, InSnapshot, IsKept, IsOpened};
+ghost use Rattle.lt_format.specs.Snapshot.{fresh};
 ghost use Rattle.lt_manifest.specs.Written.{HasSelected, InSelected};
 
 use crate::area::{fill_area, fill_selector, select_area, write_area};

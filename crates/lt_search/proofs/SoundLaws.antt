@@ -18,14 +18,16 @@ use Rattle.lt_format.specs.Layout.{extent_block}
 use Rattle.lt_format.specs.Trie.{Trie, is_last_level, node_at, path}
 use Rattle.lt_htable.specs.declared.faults.LookFault.{LookFault}
 use Rattle.lt_htable.proofs.PlacedLaws.{looked_up-placed}
-use Rattle.lt_image.specs.Bound.{groups_met, holds_key, is_covered, met, reads_of, up_to_first}
+use Rattle.lt_image.specs.Bound.{groups_met, holds_key, met, reads_of, up_to_first}
+use Rattle.lt_image.specs.Versions.{is_covered}
 use Rattle.lt_image.specs.Versions.{Opened, open_image, Stop, at_stops, extent_in, first_some, items_at, stops}
 use Rattle.lt_image.specs.Standing.{bad_blocks}
 use Rattle.lt_image.proofs.AfterLaws.{node_at-holds}
 use Rattle.lt_image.proofs.GroupAnswerLaws.{groups-answer}
 use Rattle.lt_image.proofs.PlacedLaws.{named-placed, named-skips}
 use Rattle.lt_search.specs.declared.version.Version.{Version}
-use Rattle.lt_search.specs.Asking.{asks_group, asks_kept, is_asked, is_asked_on}
+use Rattle.lt_search.specs.Asking.{asks_kept, is_asked}
+use Rattle.lt_search.specs.Seen.{asks_group, is_asked_on}
 use Rattle.lt_search.specs.Found.{IsAnswer}
 use Rattle.lt_search.specs.Kept.{IsSoundWith, KeepsFilter, inner_pile, inner_tables, may_hold}
 use Rattle.lt_search.specs.Reads.{path_reads}

@@ -7,7 +7,7 @@ use Rattle.lt_terms.specs.Bytes.{Image}
 use Rattle.lt_device.specs.Moments.{Leaves, MayLeave}
 use Rattle.lt_device.specs.Reads.{CountsAtMost}
 use Rattle.lt_device.specs.State as told
-use Rattle.lt_image.specs.Counts.{HasCounts}
+use Rattle.lt_image.specs.Standing.{HasCounts}
 use Rattle.lt_image.specs.Standing.{after_writes}
 use Rattle.lt_image.proofs.KeptLaws.{no_writes}
 use Rattle.lt_language.specs.declared.Bad.{Bad}

@@ -21,7 +21,7 @@ use Rattle.lt_terms.specs.Causes.{Rose}
 use Rattle.lt_device.specs.Moments.{LeftSince, Leaves, MayLeave, clock}
 use Rattle.lt_device.specs.State as told
 use Rattle.lt_device.specs.State.{Epoch}
-use Rattle.lt_image.specs.Counts.{HasCounts}
+use Rattle.lt_image.specs.Standing.{HasCounts}
 use Rattle.lt_io.specs.Streams.{Gains, Takes, IsAtEnd}
 use Rattle.lt_language.specs.Commands.{lines_of}
 use Rattle.lt_store.specs.Promise.{AtRest, IsReplyTo, StopsGet}

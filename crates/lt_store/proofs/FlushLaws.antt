@@ -20,7 +20,8 @@ use Rattle.lt_format.specs.Log.{items_in}
 use Rattle.lt_format.specs.Snapshot.{Named, InManifest, manifest_of, after_commit, Manifest}
 use Rattle.lt_format.specs.Trie.{named}
 use Rattle.lt_format.specs.Changes.{flush}
-use Rattle.lt_manifest.specs.Promise.{Names, HasNew, HasOldOrNew}
+use Rattle.lt_manifest.specs.Promise.{HasNew, HasOldOrNew}
+use Rattle.lt_format.specs.Snapshot.{Names}
 use Rattle.lt_redo.specs.LogState.{LogState, other_area}
 use Rattle.lt_redo.specs.Slots.{HasLog, InLogArea}
 use Rattle.lt_redo.proofs.AreaLaws.{has_log-local}

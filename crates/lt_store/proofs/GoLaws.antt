@@ -11,7 +11,7 @@ use Rattle.lt_device.proofs.Runs.{begins, joins, weakens}
 use Rattle.lt_format.specs.declared.geometry.Geometry.{Geometry}
 use Rattle.lt_format.specs.Snapshot.{Named}
 use Rattle.lt_language.specs.Machine.{State, nothing_yet}
-use Rattle.lt_manifest.specs.Promise.{Names}
+use Rattle.lt_format.specs.Snapshot.{Names}
 use Rattle.lt_image.specs.Standing.{IsPrefix, Stands, after_writes, is_free_block}
 use Rattle.lt_image.proofs.OpenLaws.{opens-is}
 use Rattle.lt_image.proofs.KeptLaws.{writes-joined, no_writes}

@@ -15,7 +15,7 @@ use Rattle.lt_format.specs.Log.{items_in}
 use Rattle.lt_format.specs.Snapshot.{manifest_of}
 use Rattle.lt_format.specs.Trie.{named}
 use Rattle.lt_format.proofs.LocalLaws.{manifest-local}
-use Rattle.lt_manifest.specs.Promise.{Names}
+use Rattle.lt_format.specs.Snapshot.{Names}
 use Rattle.lt_redo.specs.LogState.{LogState, slots_with, groups_with}
 use Rattle.lt_redo.specs.Slots.{HasLog, HasLogOrLonger, InSlot}
 use Rattle.lt_image.specs.After.{Keeps, SameExtent}

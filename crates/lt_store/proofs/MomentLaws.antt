@@ -12,7 +12,7 @@ use Rattle.lt_device.proofs.Runs.{begins, weakens, confined_keeps}
 use Rattle.lt_device.proofs.Rest.{unsynced_near}
 use Rattle.lt_language.specs.Machine.{State}
 use Rattle.lt_format.specs.Log.{items_in}
-use Rattle.lt_manifest.specs.Promise.{Names}
+use Rattle.lt_format.specs.Snapshot.{Names}
 use Rattle.lt_redo.specs.Slots.{HasLog}
 use Rattle.lt_image.specs.Standing.{Stands, is_free_block}
 use Rattle.lt_search.specs.Kept.{KeepsFilter}

@@ -6,7 +6,7 @@ use Rattle.lt_device.specs.Moments.{MayLeave}
 use Rattle.lt_language.specs.Machine.{State}
 use Rattle.lt_alloc.specs.Extents.{free_count}
 use Rattle.lt_format.specs.Trie.{table_total}
-use Rattle.lt_image.specs.Counts.{HasCounts}
+use Rattle.lt_image.specs.Standing.{HasCounts}
 use Rattle.lt_store.specs.declared.counts.Stat.{Stat}
 use Rattle.lt_store.specs.Open.{IsOpen, StoreView}
 

@@ -5,7 +5,7 @@ use Rattle.lt_device.specs.State as told
 use Rattle.lt_format.specs.declared.geometry.Geometry.{Geometry}
 use Rattle.lt_format.specs.Layout.{blocks_needed, log_gate}
 use Rattle.lt_format.specs.Snapshot.{manifest_in}
-use Rattle.lt_manifest.specs.Promise.{fresh}
+use Rattle.lt_format.specs.Snapshot.{fresh}
 use Rattle.lt_redo.specs.Slots.{IsCleared}
 
 -- the geometry with this many levels and slots

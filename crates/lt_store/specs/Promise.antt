@@ -16,13 +16,13 @@ use Rattle.lt_format.specs.declared.geometry.Geometry.{Geometry}
 use Rattle.lt_format.specs.Layout.{extent_block}
 use Rattle.lt_format.specs.Snapshot.{Named}
 use Rattle.lt_format.specs.Trie.{node_at, path}
-use Rattle.lt_manifest.specs.Promise.{Names, fresh}
+use Rattle.lt_format.specs.Snapshot.{Names, fresh}
 use Rattle.lt_image.specs.Versions.{open_image, Opened, log_items, stops}
 use Rattle.lt_image.specs.Standing.{Stands, is_free_block}
 use Rattle.lt_terms.specs.Items.{Item}
 use Rattle.lt_tables.specs.Table.{newest_of, value_of}
 use Rattle.lt_htable.specs.declared.faults.LookFault.{LookFault}
-use Rattle.lt_search.specs.Asking.{is_asked_on}
+use Rattle.lt_search.specs.Seen.{is_asked_on}
 use Rattle.lt_search.specs.Seen.{before_older, seen_along}
 
 -- A device that tells its blocks and what a crash may leave: each image that it may leave stands for this

@@ -1,6 +1,6 @@
 use Rattle.std.proofs.Common.{rules, ℕ, List, ◌∙◌, refl, inl, inr, ap, sym, subst, length, IsTrue, arith}
 use Rattle.lt_format.specs.Snapshot.{extents_stand, InManifest}
-use Rattle.lt_manifest.specs.Promise.{fresh}
+use Rattle.lt_format.specs.Snapshot.{fresh}
 use Rattle.lt_manifest.proofs.ManifestLaws.{bytes-fit, roomy-below, fresh-stands, fresh-written, fresh-named}
 use Rattle.lt_device.proofs.TouchLaws.{touches-widens, touches-writes}
 use Rattle.lt_manifest.specs.Written.{HasSelected, InSelected}

@@ -6,7 +6,7 @@ use Rattle.lt_format.specs.declared.header.Header.{Header}
 use Rattle.lt_format.specs.Snapshot.{Manifest}
 use Rattle.lt_format.specs.Trie.{all_distinct}
 use Rattle.lt_language.specs.Machine.{State}
-use Rattle.lt_manifest.specs.Promise.{Names}
+use Rattle.lt_format.specs.Snapshot.{Names}
 use Rattle.lt_redo.specs.LogState.{other_area}
 use Rattle.lt_tables.specs.Cut.{cut}
 use Rattle.lt_tables.specs.Table.{newest}

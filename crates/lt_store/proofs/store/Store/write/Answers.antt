@@ -4,7 +4,7 @@ use Rattle.lt_terms.specs.Items.{item_cost}
 use Rattle.lt_store.specs.Going.{Goes, appended}
 use Rattle.lt_store.specs.Flushing.{IsFlushed}
 use Rattle.lt_store.specs.Open.{StoreView}
-use Rattle.lt_image.specs.Counts.{IsFullImage}
+use Rattle.lt_image.specs.Pressure.{IsFullImage}
 use Rattle.lt_store.specs.Taking.{is_due, readied}
 use Rattle.lt_store.specs.View.{view_of}
 use Rattle.lt_store.proofs.GoLaws.{goes-none, goes-stays, goes-append}
