@@ -107,7 +107,7 @@ id_of e = e.0
 abbrev pub extents_of : NodeId × Node → List ℕ
 extents_of e = node_extents e.1
 
--- so many nodes, one after another
+-- a trie read as so many nodes, one after another, or the place of the first field that does not stand
 unfoldable pub nodes_read : (ℕ → ℕ) → ℕ → ℕ → ℕ → ℕ → Option NodeId → List ℕ → ℕ → Result (Trie × ℕ) ℕ
 nodes_read bytes limit levels extents zero last_id before at = Ok ([], at)
 nodes_read bytes limit levels extents (suc n) last_id before at = do

@@ -8,7 +8,7 @@ use Rattle.lt_device.specs.Moments.{MayLeave, Leaves, ConfinedTo, UnsyncedIn}
 use Rattle.lt_language.specs.Machine.{State}
 use Rattle.lt_format.specs.Log.{items_in, log_fits}
 use Rattle.lt_redo.specs.Slots.{HasLog, InSlot}
-use Rattle.lt_redo.proofs.NextGroup.{AnyMoment, Committed}
+use Rattle.lt_redo.specs.LogState.{AnyMoment, Committed}
 use Rattle.lt_image.specs.Standing.{after_writes}
 use Rattle.lt_store.specs.Committing.{StandsForEither, committed}
 use Rattle.lt_store.specs.Going.{Goes, Survives}
