@@ -4,7 +4,7 @@ use Rattle.std.specs.Prelude.{IsTrue}
 use Rattle.std.proofs.lemmas.List.{take_all}
 use Rattle.lt_terms.specs.Items.{Item, put_of, delete_of}
 use Rattle.lt_terms.specs.Bytes.{Image}
-use Rattle.lt_device.specs.Moments.{Leaves, MayLeave}
+use Rattle.lt_device.specs.Moments.{MayLeave}
 use Rattle.lt_device.specs.Reads.{CountsAtMost}
 use Rattle.lt_device.specs.State as told
 use Rattle.lt_image.specs.Standing.{HasCounts}

@@ -249,7 +249,7 @@ over-unopened e before status faults0 faults old new still later r =
       far = λ front behind is long. absurd (omega (arith, ap length is, length-append front behind));
       whole = λ inner still. record { shown = []; hidden = []; order = refl; text = refl; first = tt };
       since = at_once (λ left. IsPrefix left before [] 0) (λ left may. prefix-none left before [] (r.each left may));
-      at_exit = λ left may. prefix-none left before [] (now.rest.each left may);
+      at_exit = λ left may. prefix-none left before [] (now.each left may);
       rests = λ short. (0, rests);
       rests_all = λ settled. rests;
       quiet = λ settled none. still;

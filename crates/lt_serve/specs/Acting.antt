@@ -2,9 +2,8 @@
 use Rattle.std.specs.Prelude.{◌≡◌, ℕ, ◌≤◌, Bool, true, false, ◌||◌, List, [], ◌∷◌, take, length, Result, Ok, Err, Some}
 use Rattle.lt_terms.specs.Items.{Item}
 use Rattle.lt_terms.specs.Bytes.{Image}
-use Rattle.lt_device.specs.Moments.{Leaves, MayLeave}
-use Rattle.lt_image.specs.Standing.{HasCounts}
-use Rattle.lt_image.specs.Standing.{after_writes}
+use Rattle.lt_device.specs.Moments.{MayLeave}
+use Rattle.lt_image.specs.Standing.{HasCounts, after_writes}
 use Rattle.lt_language.specs.declared.Bad.{Bad}
 use Rattle.lt_language.specs.Commands as commands
 use Rattle.lt_language.specs.Commands.{Command}

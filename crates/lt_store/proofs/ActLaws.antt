@@ -3,7 +3,6 @@ use Rattle.std.proofs.Common.{◌≡◌, ℕ, ◌+◌, ◌*◌, ◌<◌, ◌≤�
 use Rattle.std.specs.Prelude.{◌↔◌, ◌≢◌, IsErrOf}
 use Rattle.lt_terms.specs.Items.{Item, put_of, delete_of}
 use Rattle.lt_device.specs.State as told
-use Rattle.lt_device.specs.Moments.{Leaves}
 use Rattle.lt_language.specs.Commands as commands
 use Rattle.lt_language.specs.Commands.{Command}
 use Rattle.lt_language.specs.Machine.{State, found, most_writes}

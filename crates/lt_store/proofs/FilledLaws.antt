@@ -3,7 +3,7 @@ use Rattle.std.proofs.Common.{◌≡◌, ℕ, true, sym, subst, List, [], Option
 use Rattle.std.specs.List.{AllZip}
 use Rattle.lt_terms.specs.Bytes.{Image}
 use Rattle.lt_terms.specs.Items.{Item}
-use Rattle.lt_device.specs.Moments.{ConfinedTo, Leaves, MayLeave, UnsyncedIn}
+use Rattle.lt_device.specs.Moments.{ConfinedTo, MayLeave, UnsyncedIn}
 use Rattle.lt_device.specs.State as told
 use Rattle.lt_format.specs.declared.geometry.Geometry.{Geometry}
 use Rattle.lt_language.specs.Machine.{State}

@@ -37,8 +37,8 @@ pub fn init<D: Device>(
     requires most { extents ≤ 65536 }
 
     // Where the device tells what a crash may leave.
-    ensures fresh { OnOk result (ForSome (D.state device.new).unsynced
-        (λ _. IsFresh (geometry_of levels slots) extents (D.state device.new))) }
+    ensures fresh { OnOk result ((flags : List Bool) → (D.state device.new).unsynced ≡ Some flags
+        → IsFresh (geometry_of levels slots) extents (D.state device.new)) }
     ensures vacant { OnOk result (IsVacant (D.state device.old)) }
     ensures room { OnOk result (blocks_for levels slots extents ≤ D.blocks device.old) }
 
