@@ -10,9 +10,9 @@ ghost use Rattle.lt_format.specs.Log.{group_room};
 ghost use Rattle.lt_store.specs.Committing.{Relogs};
 ghost use Rattle.lt_store.specs.Going.{appended};
 ghost use Rattle.lt_store.specs.Open.{blocks_of};
-ghost use Rattle.lt_store.specs.Taking.{is_due, readied, IsFull, LeavesFull};
+ghost use Rattle.lt_store.specs.Taking.{accepted_by, is_due, readied, IsFull, LeavesFull};
 ghost use Rattle.lt_store.specs.View.{view_of};
-ghost use Rattle.lt_store.specs.Calls.{Commits, Flushes, LivesOn, TakesItem, Unchanged, WhereOpen};
+ghost use Rattle.lt_store.specs.Calls.{Commits, Flushes, GoesOn, LivesOn, TakesItem, Unchanged, WhereOpen};
 
 use crate::faults::{FlushFault, WriteFault};
 use crate::store::Store;
@@ -54,8 +54,13 @@ impl Store {
         requires up { self.old.is_up ≡ true }
         requires valid { IsTrue (is_valid (put_of key.now value.now)) }
         requires within { blocks_of (view_of self.old) ≤ D.blocks device.old }
-        ensures { TakesItem D.Device (put_of key.now value.now) self.old self.new result device.old
-            device.new }
+        ensures taken { IfOk result (λ answer. GoesOn D.Device self.old
+            (accepted_by (put_of key.now value.now) answer) self.new device.old device.new) }
+        ensures limit { (result ≡ Ok Taken.Limit) ↔ (self.old.writes ≡ most_writes) }
+        ensures full { (needed free : ℕ) → result ≡ Ok (Taken.Full needed free)
+            → IsFull (view_of self.new) needed free }
+        ensures all { TakesItem D.Device (put_of key.now value.now) self.old self.new result
+            device.old device.new }
     {
         let item = ItemView {
             kind: Kind::Put,
@@ -75,8 +80,13 @@ impl Store {
         requires up { self.old.is_up ≡ true }
         requires valid { IsTrue (is_valid (delete_of key.now)) }
         requires within { blocks_of (view_of self.old) ≤ D.blocks device.old }
-        ensures { TakesItem D.Device (delete_of key.now) self.old self.new result device.old
-            device.new }
+        ensures taken { IfOk result (λ answer. GoesOn D.Device self.old
+            (accepted_by (delete_of key.now) answer) self.new device.old device.new) }
+        ensures limit { (result ≡ Ok Taken.Limit) ↔ (self.old.writes ≡ most_writes) }
+        ensures full { (needed free : ℕ) → result ≡ Ok (Taken.Full needed free)
+            → IsFull (view_of self.new) needed free }
+        ensures all { TakesItem D.Device (delete_of key.now) self.old self.new result
+            device.old device.new }
     {
         let item = ItemView {
             kind: Kind::Delete,

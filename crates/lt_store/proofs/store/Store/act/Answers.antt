@@ -24,11 +24,11 @@ use Rattle.lt_terms.proofs.CauseLaws.{OnErr-always}
 
 pub returns-in_err-put-in-Put-clause-goes_on : goal.returns-in_err-put-in-Put-clause-goes_on
 returns-in_err-put-in-Put-clause-goes_on g c = OnErr-always c.from_residual.result (λ is durable opened.
-    refused-goes c.put.new.self.is_up c.put.result c.in_err-put-in-Put.field-0.0 c.in_err-put-in-Put.was c.put.ensures.up c.put.ensures.in_place.undamaged _ (λ fault. c.put.ensures.writes.refused fault durable opened) is)
+    refused-goes c.put.new.self.is_up c.put.result c.in_err-put-in-Put.field-0.0 c.in_err-put-in-Put.was c.put.ensures.all.up c.put.ensures.all.in_place.undamaged _ (λ fault. c.put.ensures.all.writes.refused fault durable opened) is)
 
 pub returns-in_err-put-in-Put-clause-broken : goal.returns-in_err-put-in-Put-clause-broken
 returns-in_err-put-in-Put-clause-broken g c = OnErr-always c.from_residual.result (λ durable opened.
-    whole-survives (view_of c.args.self.now) durable (g.D.Device.state c.args.device.now) (g.D.Device.state c.put.new.device) (c.put.ensures.whole durable opened))
+    whole-survives (view_of c.args.self.now) durable (g.D.Device.state c.args.device.now) (g.D.Device.state c.put.new.device) (c.put.ensures.all.whole durable opened))
 
 pub returns-in_ok-put-in-Put-clause-step : goal.returns-in_ok-put-in-Put-clause-step
 returns-in_ok-put-in-Put-clause-step g c = λ durable opened.
@@ -46,11 +46,11 @@ returns-in_ok-put-in-Put-clause-kind g c = rw c.in-Put.is (write-kind (commands.
 
 pub returns-in_err-delete-in-Delete-clause-goes_on : goal.returns-in_err-delete-in-Delete-clause-goes_on
 returns-in_err-delete-in-Delete-clause-goes_on g c = OnErr-always c.from_residual-in_err-delete-in-Delete.result (λ is durable opened.
-    refused-goes c.delete.new.self.is_up c.delete.result c.in_err-delete-in-Delete.field-0.0 c.in_err-delete-in-Delete.was c.delete.ensures.up c.delete.ensures.in_place.undamaged _ (λ fault. c.delete.ensures.writes.refused fault durable opened) is)
+    refused-goes c.delete.new.self.is_up c.delete.result c.in_err-delete-in-Delete.field-0.0 c.in_err-delete-in-Delete.was c.delete.ensures.all.up c.delete.ensures.all.in_place.undamaged _ (λ fault. c.delete.ensures.all.writes.refused fault durable opened) is)
 
 pub returns-in_err-delete-in-Delete-clause-broken : goal.returns-in_err-delete-in-Delete-clause-broken
 returns-in_err-delete-in-Delete-clause-broken g c = OnErr-always c.from_residual-in_err-delete-in-Delete.result (λ durable opened.
-    whole-survives (view_of c.args.self.now) durable (g.D.Device.state c.args.device.now) (g.D.Device.state c.delete.new.device) (c.delete.ensures.whole durable opened))
+    whole-survives (view_of c.args.self.now) durable (g.D.Device.state c.args.device.now) (g.D.Device.state c.delete.new.device) (c.delete.ensures.all.whole durable opened))
 
 pub returns-in_ok-delete-in-Delete-clause-step : goal.returns-in_ok-delete-in-Delete-clause-step
 returns-in_ok-delete-in-Delete-clause-step g c = λ durable opened.
@@ -154,42 +154,42 @@ returns-in_err-len-in-Get-clause-damaged g c = λ b is.
 pub returns-in_ok-put-in-Put-clause-writes : goal.returns-in_ok-put-in-Put-clause-writes
 returns-in_ok-put-in-Put-clause-writes g c =
     let answer = c.in_ok-put-in-Put in
-    rw c.in-Put.is (event-writes g.D.Device (put_of c.in-Put.key.now c.in-Put.value.now) (view_of c.args.self.now) (view_of c.put.new.self) c.put.result (Ok (outcomes.Taken answer.field-0)) (same-ok c.put.result answer.field-0 answer.was) c.args.device.now c.put.new.device c.put.ensures.writes)
+    rw c.in-Put.is (event-writes g.D.Device (put_of c.in-Put.key.now c.in-Put.value.now) (view_of c.args.self.now) (view_of c.put.new.self) c.put.result (Ok (outcomes.Taken answer.field-0)) (same-ok c.put.result answer.field-0 answer.was) c.args.device.now c.put.new.device c.put.ensures.all.writes)
 
 pub returns-in_err-put-in-Put-clause-writes : goal.returns-in_err-put-in-Put-clause-writes
 returns-in_err-put-in-Put-clause-writes g c =
     let fault = err_from_is_err_and c.from_residual.result c.from_residual.ensures.1 in
-    rw c.in-Put.is (event-writes g.D.Device (put_of c.in-Put.key.now c.in-Put.value.now) (view_of c.args.self.now) (view_of c.put.new.self) c.put.result c.from_residual.result (same-err c.put.result c.from_residual.result fault.0 (c.in_err-put-in-Put.was ∙ ap Err (sym fault.2)) fault.1) c.args.device.now c.put.new.device c.put.ensures.writes)
+    rw c.in-Put.is (event-writes g.D.Device (put_of c.in-Put.key.now c.in-Put.value.now) (view_of c.args.self.now) (view_of c.put.new.self) c.put.result c.from_residual.result (same-err c.put.result c.from_residual.result fault.0 (c.in_err-put-in-Put.was ∙ ap Err (sym fault.2)) fault.1) c.args.device.now c.put.new.device c.put.ensures.all.writes)
 
 pub returns-in_ok-put-in-Put-clause-in_place : goal.returns-in_ok-put-in-Put-clause-in_place
 returns-in_ok-put-in-Put-clause-in_place g c =
     let answer = c.in_ok-put-in-Put in
-    rw c.in-Put.is (event-in-place g.D.Device (put_of c.in-Put.key.now c.in-Put.value.now) (view_of c.args.self.now) (view_of c.put.new.self) c.put.result (Ok (outcomes.Taken answer.field-0)) (same-ok c.put.result answer.field-0 answer.was) c.args.device.now c.put.new.device c.put.ensures.in_place)
+    rw c.in-Put.is (event-in-place g.D.Device (put_of c.in-Put.key.now c.in-Put.value.now) (view_of c.args.self.now) (view_of c.put.new.self) c.put.result (Ok (outcomes.Taken answer.field-0)) (same-ok c.put.result answer.field-0 answer.was) c.args.device.now c.put.new.device c.put.ensures.all.in_place)
 
 pub returns-in_err-put-in-Put-clause-in_place : goal.returns-in_err-put-in-Put-clause-in_place
 returns-in_err-put-in-Put-clause-in_place g c =
     let fault = err_from_is_err_and c.from_residual.result c.from_residual.ensures.1 in
-    rw c.in-Put.is (event-in-place g.D.Device (put_of c.in-Put.key.now c.in-Put.value.now) (view_of c.args.self.now) (view_of c.put.new.self) c.put.result c.from_residual.result (same-err c.put.result c.from_residual.result fault.0 (c.in_err-put-in-Put.was ∙ ap Err (sym fault.2)) fault.1) c.args.device.now c.put.new.device c.put.ensures.in_place)
+    rw c.in-Put.is (event-in-place g.D.Device (put_of c.in-Put.key.now c.in-Put.value.now) (view_of c.args.self.now) (view_of c.put.new.self) c.put.result c.from_residual.result (same-err c.put.result c.from_residual.result fault.0 (c.in_err-put-in-Put.was ∙ ap Err (sym fault.2)) fault.1) c.args.device.now c.put.new.device c.put.ensures.all.in_place)
 
 pub returns-in_ok-delete-in-Delete-clause-writes : goal.returns-in_ok-delete-in-Delete-clause-writes
 returns-in_ok-delete-in-Delete-clause-writes g c =
     let answer = c.in_ok-delete-in-Delete in
-    rw c.in-Delete.is (event-writes g.D.Device (delete_of c.in-Delete.key.now) (view_of c.args.self.now) (view_of c.delete.new.self) c.delete.result (Ok (outcomes.Taken answer.field-0)) (same-ok c.delete.result answer.field-0 answer.was) c.args.device.now c.delete.new.device c.delete.ensures.writes)
+    rw c.in-Delete.is (event-writes g.D.Device (delete_of c.in-Delete.key.now) (view_of c.args.self.now) (view_of c.delete.new.self) c.delete.result (Ok (outcomes.Taken answer.field-0)) (same-ok c.delete.result answer.field-0 answer.was) c.args.device.now c.delete.new.device c.delete.ensures.all.writes)
 
 pub returns-in_err-delete-in-Delete-clause-writes : goal.returns-in_err-delete-in-Delete-clause-writes
 returns-in_err-delete-in-Delete-clause-writes g c =
     let fault = err_from_is_err_and c.from_residual-in_err-delete-in-Delete.result c.from_residual-in_err-delete-in-Delete.ensures.1 in
-    rw c.in-Delete.is (event-writes g.D.Device (delete_of c.in-Delete.key.now) (view_of c.args.self.now) (view_of c.delete.new.self) c.delete.result c.from_residual-in_err-delete-in-Delete.result (same-err c.delete.result c.from_residual-in_err-delete-in-Delete.result fault.0 (c.in_err-delete-in-Delete.was ∙ ap Err (sym fault.2)) fault.1) c.args.device.now c.delete.new.device c.delete.ensures.writes)
+    rw c.in-Delete.is (event-writes g.D.Device (delete_of c.in-Delete.key.now) (view_of c.args.self.now) (view_of c.delete.new.self) c.delete.result c.from_residual-in_err-delete-in-Delete.result (same-err c.delete.result c.from_residual-in_err-delete-in-Delete.result fault.0 (c.in_err-delete-in-Delete.was ∙ ap Err (sym fault.2)) fault.1) c.args.device.now c.delete.new.device c.delete.ensures.all.writes)
 
 pub returns-in_ok-delete-in-Delete-clause-in_place : goal.returns-in_ok-delete-in-Delete-clause-in_place
 returns-in_ok-delete-in-Delete-clause-in_place g c =
     let answer = c.in_ok-delete-in-Delete in
-    rw c.in-Delete.is (event-in-place g.D.Device (delete_of c.in-Delete.key.now) (view_of c.args.self.now) (view_of c.delete.new.self) c.delete.result (Ok (outcomes.Taken answer.field-0)) (same-ok c.delete.result answer.field-0 answer.was) c.args.device.now c.delete.new.device c.delete.ensures.in_place)
+    rw c.in-Delete.is (event-in-place g.D.Device (delete_of c.in-Delete.key.now) (view_of c.args.self.now) (view_of c.delete.new.self) c.delete.result (Ok (outcomes.Taken answer.field-0)) (same-ok c.delete.result answer.field-0 answer.was) c.args.device.now c.delete.new.device c.delete.ensures.all.in_place)
 
 pub returns-in_err-delete-in-Delete-clause-in_place : goal.returns-in_err-delete-in-Delete-clause-in_place
 returns-in_err-delete-in-Delete-clause-in_place g c =
     let fault = err_from_is_err_and c.from_residual-in_err-delete-in-Delete.result c.from_residual-in_err-delete-in-Delete.ensures.1 in
-    rw c.in-Delete.is (event-in-place g.D.Device (delete_of c.in-Delete.key.now) (view_of c.args.self.now) (view_of c.delete.new.self) c.delete.result c.from_residual-in_err-delete-in-Delete.result (same-err c.delete.result c.from_residual-in_err-delete-in-Delete.result fault.0 (c.in_err-delete-in-Delete.was ∙ ap Err (sym fault.2)) fault.1) c.args.device.now c.delete.new.device c.delete.ensures.in_place)
+    rw c.in-Delete.is (event-in-place g.D.Device (delete_of c.in-Delete.key.now) (view_of c.args.self.now) (view_of c.delete.new.self) c.delete.result c.from_residual-in_err-delete-in-Delete.result (same-err c.delete.result c.from_residual-in_err-delete-in-Delete.result fault.0 (c.in_err-delete-in-Delete.was ∙ ap Err (sym fault.2)) fault.1) c.args.device.now c.delete.new.device c.delete.ensures.all.in_place)
 
 pub returns-in_err-len-in-Get-clause-in_place : goal.returns-in_err-len-in-Get-clause-in_place
 returns-in_err-len-in-Get-clause-in_place g c =
