@@ -205,7 +205,17 @@ fn flush_twice<D: Device>(alloc: Global, device: &mut D) -> Option<(Vec<Outcome>
     let commit = EventView::Commit;
     let stat = EventView::Stat;
     let mut outcomes = Vec::new(alloc);
-    for event in [put_a, commit, put_a_again, commit, put_b, get_a, delete_b, get_b, stat] {
+    for event in [
+        put_a,
+        commit,
+        put_a_again,
+        commit,
+        put_b,
+        get_a,
+        delete_b,
+        get_b,
+        stat,
+    ] {
         let outcome = act(alloc, &mut store, device, event, &mut out)?;
         outcomes.push(outcome).ok()?;
     }
