@@ -1,14 +1,11 @@
 -- The open group as the next one of a log.
 use Rattle.std.proofs.Common.{◌≡◌, ℕ, ◌+◌, ◌<◌, List, [], ◌∷◌, ◌++◌, ap, ◌∙◌, refl, length, IsTrue, arith}
-use Rattle.lt_terms.specs.Bytes.{Image}
 use Rattle.lt_terms.specs.Items.{Item}
-use Rattle.lt_device.specs.State.{State}
-use Rattle.lt_device.specs.Moments.{MayLeave, Leaves}
 use Rattle.lt_format.specs.declared.geometry.Geometry.{Geometry}
 use Rattle.lt_format.specs.Log.{group_page, group_on, log_fits, items_in}
 use Rattle.lt_redo.specs.Group.{IsGathered}
-use Rattle.lt_redo.specs.LogState.{LogState, slots_with, groups_with}
-use Rattle.lt_redo.specs.Slots.{HasLog, HasLogOrLonger, HoldsPages, MayFollow}
+use Rattle.lt_redo.specs.LogState.{slots_with, groups_with}
+use Rattle.lt_redo.specs.Slots.{MayFollow}
 use Rattle.lt_redo.proofs.GroupLaws.{group_on-group_page}
 
 -- a group that is gathered and not empty

@@ -1,4 +1,4 @@
-use Rattle.std.proofs.Common.{◌≡◌, false}
+use Rattle.std.proofs.Common.{false}
 use Rattle.lt_device.specs.Calls.{FillsOnly}
 use Rattle.lt_format.specs.Layout.{edit_gate, gate_page}
 use Rattle.lt_manifest.specs.Written.{AreWritten, ComesFrom, InEdits}

@@ -1,4 +1,4 @@
-use Rattle.std.proofs.Common.{◌≡◌, ◌+◌}
+use Rattle.std.proofs.Common.{◌+◌}
 use Rattle.lt_device.specs.Calls.{FillsOnly}
 use Rattle.lt_format.specs.Layout.{area_block}
 use Rattle.lt_manifest.specs.Written.{AreWritten, InArea, page_of}
