@@ -42,7 +42,8 @@ abbrev pub items_with_slot : Geometry → ℕ → ℕ → Replay → Image → O
 items_with_slot g b slot read image =
     items_with read.writes read.items.items (group_on (block_at image (log_content g b slot)))
 
--- a damaged block that is answered is the first of log area b that does not stand, where a device tells what it reads as
+-- a damaged block that is answered is the first of log area b that does not stand, where a device tells what it reads
+-- as
 abbrev pub TellsDamage : {T : Type 0} → Result T OpenFault → Geometry → ℕ → ℕ → Option Image → Type 0
 TellsDamage result g b writes shown = FaultBy result Damaged shown (λ image n. log_groups g image b writes ≡ Err n)
 

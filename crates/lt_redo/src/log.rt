@@ -10,8 +10,9 @@ ghost use Rattle.lt_device.specs.Faults.{FaultIn};
 ghost use Rattle.lt_device.specs.Moments.{ConfinedTo, UnsyncedIn, MayOnlyLeave};
 ghost use Rattle.lt_format.specs.Layout.{is_geometry, extent_block};
 ghost use Rattle.lt_format.specs.Log.{group_room, log_fits};
-ghost use Rattle.lt_redo.specs.LogState.{AnyMoment, Committed, EmptiesOther, HasNoRoom, HasSlot, HasZeroOther, InNextSlot};
-ghost use Rattle.lt_redo.specs.LogState.{InOther, IsPlace, LogState, Spelled, committed, idle_log, turned, with_pending};
+ghost use Rattle.lt_redo.specs.LogState.{AnyMoment, Committed, EmptiesOther, HasNoRoom, HasSlot, HasZeroOther};
+ghost use Rattle.lt_redo.specs.LogState.{InNextSlot, InOther, IsPlace, LogState, Spelled, committed, idle_log, turned};
+ghost use Rattle.lt_redo.specs.LogState.{with_pending};
 ghost use Rattle.lt_redo.specs.Opening.{IsReadLog, TellsDamage};
 ghost use Rattle.lt_redo.specs.Slots.{InLogArea};
 
