@@ -168,7 +168,9 @@ fn time_jobs<R: Clock + Print + AllocGlobal>(rt: &R) -> io::Result<()> {
     };
     let percent = time.as_nanos() * 100 / writing.max(1);
     let with_copies = time.as_nanos() * 100 / writing.saturating_add(copying).max(1);
-    println!(rt; "jobs: {steps} steps, {percent} hundredths of writing the tables, {with_copies} with copies")
+    println!(rt;
+        "jobs: {steps} steps, {percent} hundredths of writing the tables, {with_copies} with copies"
+    )
 }
 
 /// How long it takes to copy the items of a full table, and to write the table.

@@ -19,7 +19,8 @@ ghost use Rattle.lt_image.specs.Versions.{free_extents, items_at, Opened, open_i
 ghost use Rattle.lt_image.specs.Standing.{Stands};
 ghost use Rattle.lt_compact.specs.Jobs.{HasScanned, HoldsOn, IsReady, IsShaped, JobView, KeepsJob, KeepsStage, Spares};
 ghost use Rattle.lt_compact.specs.Extents.{AllTaken, GoesWith};
-ghost use Rattle.lt_compact.specs.Jobs.{begun, change_of, filling, is_loose, is_told_slack, planned, scanning, taken_in};
+ghost use Rattle.lt_compact.specs.Jobs.{begun, change_of, filling, is_loose, is_told_slack, planned};
+ghost use Rattle.lt_compact.specs.Jobs.{scanning, taken_in};
 ghost use Rattle.lt_compact.specs.Plans.{Content, Holds, all_contents, are_shared, extents_for};
 
 /// A job as it begins has the shape that the trie wants. A job that has reserved nothing goes with the trie where
