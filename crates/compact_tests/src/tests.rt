@@ -48,12 +48,11 @@ fn put(table: &mut MemTable, key: &[u8], value: Option<&[u8]>) {
         key,
         value: value.unwrap_or(&[]),
     };
-    if !item.is_valid() || table.bytes() > 204_092 - u32::from(cost(&item)) {
+    if !item.is_valid() {
         return;
     }
-    match value {
-        Some(value) => table.put(key, value),
-        None => table.delete(key),
+    if table.bytes() <= 204_092 - u32::from(cost(&item)) {
+        table.add(&item, &parts_of(key));
     }
 }
 

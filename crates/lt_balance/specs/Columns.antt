@@ -14,7 +14,7 @@ no_column = record { load = 0; mark = 0; sent = 0 }
 abbrev pub column_of : List Entry → ℕ → Column
 column_of es c = record { load = column_load es c; mark = column_mark es c; sent = sent_cost es c }
 
--- these are the 64 columns of the entries
+-- a list of columns is that of the 64 columns of the entries
 pub record AreColumns (es : List Entry) (columns : List Column) : Type 0 where
   pub len : length columns ≡ 64
   pub each : (c : ℕ) → c < 64 → slice_index_or columns c no_column ≡ column_of es c
@@ -23,7 +23,7 @@ pub record AreColumns (es : List Entry) (columns : List Column) : Type 0 where
 abbrev pub NoneAbove : List Entry → ℕ → Type 0
 NoneAbove es suffix = All (λ (e : Entry). e.suffix ≤ suffix) es
 
--- these are the rooms of the 64 columns after these sendings
+-- a list of numbers is that of the rooms of the 64 columns after these sendings
 pub record AreRooms (es : List Entry) (made : List Sending) (rooms : List ℕ) : Type 0 where
   pub len : length rooms ≡ 64
   pub each : (c : ℕ) → c < 64 → slice_index rooms c ≡ room es made c

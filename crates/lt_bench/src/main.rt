@@ -2,6 +2,7 @@
 //! prints nothing.
 #![tactic(auto)]
 
+mod jobs;
 mod memory;
 mod plain;
 mod plain_look;
@@ -10,8 +11,10 @@ mod plain_place;
 mod sample;
 mod stored;
 
+use jobs::{Deal, EXTENTS, GEOMETRY, TABLES, copies, full_items};
 use lt_balance::{are_entries, cut};
 use lt_device::{Device, Steady};
+use lt_htable::build;
 use lt_mem::MemTable;
 use lt_page::{NoMemory, Page};
 use memory::{found_in_map, found_in_table};
@@ -21,7 +24,9 @@ use std::collections::HashMap;
 use std::rt::Clock;
 use std::time::Instant;
 use std::{env, io};
-use stored::{decoded, found_stored, plain_decoded, plain_found_stored, store, stored_items};
+use stored::{
+    decoded, found_stored, may_build, plain_decoded, plain_found_stored, store, stored_items,
+};
 
 /// As many items as a memory table holds at most.
 const ENTRIES: u32 = 40_000;
@@ -36,6 +41,7 @@ fn main(rt: HostRuntime) -> io::Result<()> {
             "memory" => time_memory(&rt)?,
             "decode" => time_decode(&rt)?,
             "get" => time_get(&rt)?,
+            "jobs" => time_jobs(&rt)?,
             _ => (),
         }
     }
@@ -134,6 +140,62 @@ fn time_get<R: Clock + Print + AllocGlobal>(rt: &R) -> io::Result<()> {
     }
     let percent = plain_time.as_nanos() * 100 / time.as_nanos().max(1);
     println!(rt; "get: {found} found, the form before takes {percent} hundredths of the time")
+}
+
+/// Prints how long a deal of eight full tables takes, in hundredths of what it takes to write these from lists in
+/// hand; and of that with the lists' items copied and their keys hashed first, as a scan does.
+fn time_jobs<R: Clock + Print + AllocGlobal>(rt: &R) -> io::Result<()> {
+    let mut device = Steady::new(rt.alloc(), GEOMETRY.needed(EXTENTS)).map_err(no_memory)?;
+    let mut copying = 0;
+    let mut writing = 0;
+    for table in TABLES {
+        let Some((copied, written)) = time_table(rt, &mut device, table)? else {
+            return println!(rt; "jobs: no table");
+        };
+        copying = u128::saturating_add(copying, copied);
+        writing = u128::saturating_add(writing, written);
+    }
+    let Some(mut deal) = Deal::begin(rt.alloc()).map_err(no_memory)? else {
+        return println!(rt; "jobs: no deal");
+    };
+
+    let start = Instant::now(rt)?;
+    let steps = deal.run(rt.alloc(), &mut device);
+    let time = start.elapsed(rt)?;
+
+    let Some(steps) = steps else {
+        return println!(rt; "jobs: the deal is not ready");
+    };
+    let percent = time.as_nanos() * 100 / writing.max(1);
+    let with_copies = time.as_nanos() * 100 / writing.saturating_add(copying).max(1);
+    println!(rt; "jobs: {steps} steps, {percent} hundredths of writing the tables, {with_copies} with copies")
+}
+
+/// How long it takes to copy the items of a full table, and to write the table.
+fn time_table<R: Clock + AllocGlobal, D: Device>(
+    rt: &R,
+    device: &mut D,
+    table: u32,
+) -> io::Result<Option<(u128, u128)>> {
+    let items = full_items(rt.alloc(), table).map_err(no_memory)?;
+    let first = GEOMETRY.extent(table);
+    let placed = may_build(rt.alloc(), &items).map_err(no_memory)?;
+    if !placed || device.blocks() < first + 65 {
+        return Ok(None);
+    }
+
+    let start = Instant::now(rt)?;
+    let copies = copies(rt.alloc(), &items).map_err(no_memory)?;
+    let copied = start.elapsed(rt)?;
+
+    let start = Instant::now(rt)?;
+    let built = build(rt.alloc(), device, first, &items);
+    let written = start.elapsed(rt)?;
+
+    if built.is_err() || copies.len() != items.len() {
+        return Ok(None);
+    }
+    Ok(Some((copied.as_nanos(), written.as_nanos())))
 }
 
 fn no_memory(_: NoMemory) -> io::Error {

@@ -1,6 +1,7 @@
 //! A table on a device in memory, and gets of its keys.
 
-ghost use Rattle.std.specs.Prelude.{◌≡◌, IfOk};
+ghost use Rattle.std.specs.Prelude.{◌≡◌, ◌<◌, IfOk, IsTrue, length, map};
+ghost use Rattle.lt_tables.specs.Placement.{entry_of, has_placement};
 ghost use Rattle.lt_tables.specs.Table.{newest};
 
 use crate::plain_look::{plain_bucket, plain_get};
@@ -42,14 +43,23 @@ pub fn store<D: Device>(
 ) -> Result<FilterPage, BuildFault>
     requires { newest items.now ≡ items.now }
 {
-    let entries = entries_of(alloc, items)?;
-    if items.is_empty() || !are_entries(&entries) {
-        return Err(BuildFault::Device);
-    }
-    if place(alloc, &entries)?.is_none() || device.blocks() < 65 {
+    if !may_build(alloc, items)? || device.blocks() < 65 {
         return Err(BuildFault::Device);
     }
     build(alloc, device, 0, items)
+}
+
+/// Whether a table may be built of these items.
+pub fn may_build(alloc: Global, items: &[Item]) -> Result<bool, NoMemory>
+    requires { newest items.now ≡ items.now }
+    ensures some { IfOk result (λ may. IsTrue may → 0 < length items.now) }
+    ensures placed { IfOk result (λ may. IsTrue may → IsTrue (has_placement (map entry_of items.now))) }
+{
+    let entries = entries_of(alloc, items)?;
+    if items.is_empty() || !are_entries(&entries) {
+        return Ok(false);
+    }
+    Ok(place(alloc, &entries)?.is_some())
 }
 
 /// Gets each key of the table, and answers how many were found.

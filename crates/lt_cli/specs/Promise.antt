@@ -20,7 +20,7 @@ use Rattle.std.specs.Option.{ForSome}
 use Rattle.lt_terms.specs.Bytes.{Image, block_at, zero_block}
 use Rattle.lt_device.specs.State as told
 use Rattle.lt_format.specs.declared.geometry.Geometry.{Geometry}
-use Rattle.lt_store.specs.Promise.{IsFresh, IsOccupied, IsVacant, Rests, StopsOpening, seen_on}
+use Rattle.lt_store.specs.Promise.{IsFresh, IsOccupied, IsVacant, AtRest, StopsOpening, seen_on}
 use Rattle.lt_device.specs.declared.device.Device.{Ghosts as Devices}
 use Rattle.lt_io.specs.declared.sink.Sink.{Ghosts as Sinks}
 use Rattle.lt_io.specs.declared.source.Source.{Ghosts as Sources}
@@ -179,8 +179,8 @@ pub record RunSeen (sight : Sight) (status : Status) (left0 left : Option (List 
 
 -- `run` on a device at rest for a state
 abbrev pub EndsAtRest : {S K D : Type 0} → Sources S → Sinks K → Devices D → Status → S → S → K → K → D → D → Type 0
-EndsAtRest u k d status source0 source sink0 sink old new = (before : State) (r : Rests before (d.state old))
-    → Ended r.rest.named.manifest.header.extents before status (u.left source0) (u.left source) (k.stands sink0)
+EndsAtRest u k d status source0 source sink0 sink old new = (before : State) (r : AtRest before (d.state old))
+    → Ended r.named.manifest.header.extents before status (u.left source0) (u.left source) (k.stands sink0)
     (k.stands sink) (k.faults sink0) (k.faults sink) (moment_of d old) (moment_of d new)
 
 -- a run that found a block which does not stand

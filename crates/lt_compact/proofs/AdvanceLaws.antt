@@ -1,9 +1,8 @@
 -- A step keeps the shape of a job, and what is true of it on an image.
-use Rattle.std.proofs.Common.{◌≡◌, ℕ, ◌+◌, ◌<◌, ◌≤◌, refl, sym, ap, subst, ◌∙◌, List, [], ◌∷◌, ◌++◌, length, take, drop, Bool, true, false, Option, Some, Result, Ok, Err, arith, take-append-drop}
-use Rattle.std.specs.Prelude.{◌==◌, ◌&&◌, nat_le, nat_lt, IfOk, OnErr}
-use Rattle.std.specs.List.{AllZip}
-use Rattle.std.proofs.lemmas.Bool.{and_parts, and_from, eq-eqb, eqb-true, le-leb, leb-true, ltb-false, ltb-true, true≢false}
-use Rattle.lt_terms.specs.Bytes.{Image, is_in}
+use Rattle.std.proofs.Common.{◌≡◌, ℕ, ◌+◌, ◌<◌, ◌≤◌, refl, sym, ap, subst, ◌∙◌, List, [], ◌++◌, length, take, drop, Bool, true, Option, Some, Result, Ok, Err, arith, take-append-drop}
+use Rattle.std.specs.Prelude.{◌==◌, ◌&&◌, nat_le, IfOk, OnErr}
+use Rattle.std.proofs.lemmas.Bool.{and_parts, and_from, eq-eqb, eqb-true, le-leb, leb-true, ltb-false, ltb-true}
+use Rattle.lt_terms.specs.Bytes.{Image}
 use Rattle.lt_terms.specs.Items.{Item}
 use Rattle.lt_device.specs.State.{SameOutside}
 use Rattle.lt_device.specs.Moments.{ShowsSameOutside}
@@ -18,7 +17,7 @@ use Rattle.lt_image.proofs.KeptLaws.{pile_same}
 use Rattle.lt_compact.specs.declared.faults.JobFault.{JobFault}
 use Rattle.lt_compact.specs.declared.step.Stepped.{Stepped}
 use Rattle.lt_compact.specs.declared.step.Stepped.TheVariants as steps
-use Rattle.lt_compact.specs.Plans.{Holds, all_contents, are_shared, extents_for, group}
+use Rattle.lt_compact.specs.Plans.{all_contents, are_shared, extents_for, group}
 use Rattle.lt_compact.specs.Jobs.{JobView, Stage, scanning, planned, filling, taken_in, is_shaped_stage, IsShaped, KeepsJob, KeepsStage}
 use Rattle.lt_compact.specs.Steps.{Advances, AdvancesFrom, Fills, InExtents, next_extents}
 use Rattle.lt_compact.proofs.ExtentLaws.{apart-joined, distinct_behind, in_dropped, in_taken, not_in_part, others-same}

@@ -1,12 +1,11 @@
 -- One table more among what a job found.
-use Rattle.std.proofs.Common.{◌≡◌, ℕ, ◌+◌, ◌*◌, ◌≤◌, refl, sym, ap, ◌∙◌, List, [], ◌∷◌, ◌++◌, length, Bool, true, false, ◌||◌, arith, append-nil}
+use Rattle.std.proofs.Common.{◌≡◌, ℕ, ◌+◌, refl, sym, ap, ◌∙◌, List, [], ◌∷◌, ◌++◌, Bool, true, false, ◌||◌, append-nil}
 use Rattle.std.specs.List.{flat_map}
-use Rattle.std.proofs.lemmas.List.{length-append}
 use Rattle.std.proofs.lemmas.List.Concat.{flat_map-append}
 use Rattle.lt_terms.specs.Items.{Item}
 use Rattle.lt_tables.specs.Table.{newest}
 use Rattle.lt_tables.proofs.NewestLaws.{newest-alike, SameNewest-append, SameNewest-newest, SameNewest-refl}
-use Rattle.lt_compact.specs.Jobs.{FoundView, found_in, is_loose}
+use Rattle.lt_compact.specs.Jobs.{found_in, is_loose}
 use Rattle.lt_compact.specs.Scanning.{found_with}
 use Rattle.lt_compact.proofs.StepLaws.{is_loose-more}
 

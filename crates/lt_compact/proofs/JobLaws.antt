@@ -1,6 +1,6 @@
 -- What a job keeps beside what it shows.
-use Rattle.std.proofs.Common.{◌≡◌, ℕ, ◌+◌, ◌<◌, ◌≤◌, refl, sym, ap, subst, ◌∙◌, List, [], ◌++◌, length, take, get_or, Bool, true, false, cond, Option, arith, append-nil}
-use Rattle.std.specs.Prelude.{◌==◌, nat_lt}
+use Rattle.std.proofs.Common.{◌≡◌, ℕ, ◌+◌, ◌<◌, ◌≤◌, refl, sym, ap, subst, ◌∙◌, List, [], ◌++◌, length, take, get_or, Bool, true, false, cond, Option, arith}
+use Rattle.std.specs.Prelude.{nat_lt}
 use Rattle.std.specs.Option.{option_to_list}
 use Rattle.std.proofs.lemmas.Bool.{eqb-true, ltb-true, true≢false}
 use Rattle.std.proofs.lemmas.List.{length-take}
@@ -20,7 +20,7 @@ use Rattle.lt_image.specs.Shares.{Share}
 use Rattle.lt_compact.specs.Extents.{filters_in}
 use Rattle.lt_compact.specs.Inside.{built_in, filters_among, for_inner, kept_of, reserved_in}
 use Rattle.lt_compact.specs.Jobs.{JobView, Stage, scanning, planned, filling, IsShaped, is_filled, taken_in}
-use Rattle.lt_compact.specs.Plans.{Content, Holds, all_contents, extents_for, filters_of}
+use Rattle.lt_compact.specs.Plans.{Content, all_contents, filters_of}
 use Rattle.lt_compact.specs.Steps.{InExtents, next_extents, turn_from}
 use Rattle.lt_compact.specs.declared.step.Turn.TheVariants as turns
 use Rattle.lt_compact.proofs.BuiltLaws.{next-built, next-inside, whole-built}

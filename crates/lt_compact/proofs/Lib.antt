@@ -19,3 +19,4 @@ pub mod JobLaws
 pub mod TurnLaws
 pub mod ReservedLaws
 pub mod CountLaws
+pub mod BeginLaws

@@ -1,9 +1,9 @@
 -- After a step the extents that are named, and those of the job, are taken, each once.
-use Rattle.std.proofs.Common.{◌≡◌, ℕ, ◌+◌, ◌<◌, refl, sym, ap, subst, ◌∙◌, List, [], ◌∷◌, ◌++◌, length, Bool, true, false, not, ◌&&◌, ◌||◌, Option, Result, Ok, Err, arith, append-nil, ◌⊎◌, inl, inr, ⊎_elim}
+use Rattle.std.proofs.Common.{◌≡◌, ℕ, refl, sym, ap, subst, ◌∙◌, List, [], ◌∷◌, ◌++◌, length, Bool, true, false, not, ◌&&◌, ◌||◌, Option, Result, Ok, Err, arith, append-nil, ◌⊎◌, inl, inr, ⊎_elim}
 use Rattle.std.specs.Prelude.{◌==◌, IfOk, OnErr}
 use Rattle.std.proofs.lemmas.Bool.{and_from, and_parts, eq-eqb, not-true, or_left, or_right, true≢false}
 use Rattle.lt_terms.specs.Bytes.{Image, is_in}
-use Rattle.lt_alloc.specs.Extents.{Reserves, is_free}
+use Rattle.lt_alloc.specs.Extents.{Reserves}
 use Rattle.lt_format.specs.declared.geometry.Geometry.{Geometry}
 use Rattle.lt_format.specs.Trie.{Trie, all_distinct, named}
 use Rattle.lt_image.specs.Shares.{Share}

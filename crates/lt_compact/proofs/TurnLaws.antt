@@ -1,9 +1,9 @@
 -- What the parts of a step want, and what they leave of the device.
-use Rattle.std.proofs.Common.{◌≡◌, ℕ, ◌+◌, ◌*◌, ◌<◌, ◌≤◌, refl, sym, ap, subst, ◌∙◌, List, [], ◌∷◌, ◌++◌, length, Bool, true, false, Option, Result, Ok, Err, arith}
-use Rattle.std.specs.Prelude.{◌==◌, nat_le, IfOk, OnErr}
+use Rattle.std.proofs.Common.{◌≡◌, ℕ, ◌+◌, ◌<◌, ◌≤◌, refl, sym, subst, ◌∙◌, List, [], ◌∷◌, ◌++◌, length, Bool, true, false, Result, Ok, Err, arith}
+use Rattle.std.specs.Prelude.{IfOk, OnErr}
 use Rattle.std.specs.List.{AllByRecursion}
-use Rattle.std.proofs.lemmas.Bool.{and_parts, eq-eqb, eqb-true, leb-true, true≢false}
-use Rattle.lt_terms.specs.Bytes.{Image, is_in}
+use Rattle.std.proofs.lemmas.Bool.{eq-eqb, true≢false}
+use Rattle.lt_terms.specs.Bytes.{is_in}
 use Rattle.lt_device.specs.Calls.{OnlyReads, ReadsAndWrites}
 use Rattle.lt_device.specs.declared.device.Device.{Ghosts}
 use Rattle.lt_device.specs.Moments.{ConfinedTo, ShowsSameOutside}
@@ -11,17 +11,15 @@ use Rattle.lt_device.specs.State.{State}
 use Rattle.lt_device.proofs.Runs.{confined_begins, stays}
 use Rattle.lt_device.proofs.Shows.{shows-none}
 use Rattle.lt_format.specs.declared.geometry.Geometry.{Geometry}
-use Rattle.lt_format.specs.declared.node_id.NodeId.{NodeId}
 use Rattle.lt_format.specs.Layout.{blocks_needed, extent_block}
 use Rattle.lt_format.specs.Trie.{Trie, all_distinct, named}
 use Rattle.lt_image.specs.Shares.{Share}
 use Rattle.lt_compact.specs.declared.faults.JobFault.{JobFault}
 use Rattle.lt_compact.specs.declared.step.Stepped.{Stepped}
 use Rattle.lt_compact.specs.Extents.{AllTaken}
-use Rattle.lt_compact.specs.Jobs.{JobView, Stage, scanning, planned, filling, taken_in, is_filled, is_shaped_stage, IsShaped}
-use Rattle.lt_compact.specs.Plans.{MayFill, are_shared, extents_for}
-use Rattle.lt_compact.specs.Steps.{Advances}
-use Rattle.lt_compact.proofs.AdvanceLaws.{IsFilling, filling-parts}
+use Rattle.lt_compact.specs.Jobs.{JobView, Stage, filling, taken_in, is_filled, is_shaped_stage, IsShaped}
+use Rattle.lt_compact.specs.Plans.{MayFill}
+use Rattle.lt_compact.proofs.AdvanceLaws.{filling-parts}
 use Rattle.lt_compact.proofs.ExtentLaws.{all_those, apart-joined, distinct_behind, each_of, in_back, in_front}
 use Rattle.lt_compact.proofs.LocalLaws.{behind_those, sources_named}
 

@@ -2,14 +2,17 @@
 -- it has come, and what is true of it.
 use Rattle.std.specs.Prelude.{◌≡◌, ℕ, ◌+◌, ◌≤◌, Bool, true, false, not, ◌&&◌, ◌||◌, List, [], length, take, Option}
 use Rattle.std.specs.Prelude.{Some, None, nat_le, nat_lt, ◌==◌, if◌then◌else◌, IsTrue}
-use Rattle.std.specs.List.{AllZip, list_any}
+use Rattle.std.specs.Global.{Vec}
+use Rattle.std.specs.List.{AllZip, flat_map, list_any}
+use Rattle.lt_bucket.specs.declared.owned.Item as owned
 use Rattle.lt_terms.specs.Bytes.{Image}
 use Rattle.lt_terms.specs.Items.{Item}
 use Rattle.lt_tables.specs.Table.{has_two_versions, is_put, newest}
 use Rattle.lt_format.specs.declared.node_id.NodeId.{NodeId}
-use Rattle.lt_format.specs.Changes.{Change}
+use Rattle.lt_format.specs.Changes.{Change, are_new}
 use Rattle.lt_format.specs.Snapshot.{Named}
-use Rattle.lt_format.specs.Trie.{Trie, node_at, is_last_level}
+use Rattle.lt_format.specs.Trie.{IsTrie, Trie, is_last_level, named, node_at}
+use Rattle.lt_image.specs.After.{SameExtents}
 use Rattle.lt_image.specs.Shares.{Share, needed, shares_of}
 use Rattle.lt_image.specs.Versions.{pile_items}
 use Rattle.lt_compact.specs.Plans.{Holds, all_contents, are_shared, change_for, extents_for}
@@ -17,6 +20,10 @@ use Rattle.lt_compact.specs.Plans.{Holds, all_contents, are_shared, change_for, 
 -- versions that a rewriting drops some of: a delete, or two versions of one key
 abbrev pub is_loose : List Item → Bool
 is_loose items = list_any (λ v. not (is_put v)) items || has_two_versions items
+
+-- the items of lists, one list behind another
+abbrev pub all_items : List (Vec owned.Item) → List Item
+all_items lists = flat_map (λ (list : Vec owned.Item). list.items) lists
 
 -- what a job found in the tables that it scanned: how many these are, the newest of each key among their
 -- items, and whether these are loose
@@ -120,3 +127,26 @@ abbrev pub is_told_slack : ℕ → Trie → NodeId → List Item → Bool → Bo
 is_told_slack levels trie id kept loose =
     let node = node_at trie id in
     is_last_level levels id && (loose || nat_lt (needed levels trie id kept) (length node.tables + length node.groups))
+
+-- on an image a job has the shape that the trie wants, and what it tells is true
+pub record HoldsOn (m : Named) (image : Image) (j : JobView) : Type 0 where
+  pub shaped : IsShaped m.geometry.levels m.manifest.trie j
+  pub keeps : KeepsJob m image j
+
+-- a ready job of a trie, whose extents are new there, with its change
+pub record IsReady (levels extents : ℕ) (trie : Trie) (j : JobView) (change : Change) : Type 0 where
+  pub trie_is : IsTrie levels extents trie
+  pub shaped : IsShaped levels trie j
+  pub change_is : change_of j ≡ Some change
+  pub new : IsTrue (are_new 65536 trie (taken_in j.stage))
+
+-- the extents that the trie names, and those that the job reserved, are as before
+pub record Spares (m : Named) (old new : Image) (j : JobView) : Type 0 where
+  pub of_trie : SameExtents m.geometry old new (named m.manifest.trie)
+  pub of_job : SameExtents m.geometry old new (taken_in j.stage)
+
+-- on an image a job at a node's whole pile has scanned all of it, and found so much
+pub record HasScanned (m : Named) (image : Image) (j : JobView) (kept : List Item) (loose : Bool) : Type 0 where
+  pub holds : HoldsOn m image j
+  pub whole : length j.sources ≡ length (node_at m.manifest.trie j.node).tables
+  pub stage : j.stage ≡ scanning (length j.sources) kept loose

@@ -1,10 +1,8 @@
 -- What a scan of one table adds to what a job found.
-use Rattle.std.specs.Prelude.{◌≡◌, ℕ, ◌+◌, ◌<◌, ◌||◌, List, ◌++◌, Option, Some, IsTrue}
-use Rattle.lt_terms.specs.Bytes.{Image, is_in}
+use Rattle.std.specs.Prelude.{◌≡◌, ℕ, ◌+◌, ◌<◌, ◌||◌, List, ◌++◌, Option, Some}
+use Rattle.lt_terms.specs.Bytes.{Image}
 use Rattle.lt_terms.specs.Items.{Item}
 use Rattle.lt_tables.specs.Table.{newest, blocks_from, table_items}
-use Rattle.lt_format.specs.declared.geometry.Geometry.{Geometry}
-use Rattle.lt_format.specs.Layout.{extent_block}
 use Rattle.lt_htable.specs.Reading.{IsNoBucket}
 use Rattle.lt_compact.specs.Jobs.{FoundView, is_loose}
 

@@ -1,13 +1,23 @@
 -- How the newest items of a job become shares.
-use Rattle.std.specs.Prelude.{◌≡◌, ℕ, ◌<◌, ◌≤◌, ◌^◌, List, [], ◌∷◌, length, map, IsTrue}
+use Rattle.std.specs.Prelude.{◌≡◌, ℕ, ◌<◌, ◌≤◌, ◌^◌, false, List, [], ◌∷◌, length, map, IsTrue}
 use Rattle.std.specs.List.{AllZip, list_all, range_with_len}
 use Rattle.lt_terms.specs.Items.{Item, is_valid}
 use Rattle.lt_tables.specs.Cut.{cut, cut_counts}
 use Rattle.lt_tables.specs.Table.{newest, with_digit}
 use Rattle.lt_tables.specs.Placement.{entry_of}
 use Rattle.lt_format.specs.declared.node_id.NodeId.{NodeId}
-use Rattle.lt_format.specs.Trie.{Trie, child, node_at}
+use Rattle.lt_format.specs.Trie.{Trie, child, is_last_level, is_node, node_at}
 use Rattle.lt_image.specs.Shares.{Share}
+
+-- items in rank order, each key once, and fewer than 2^32
+pub record AreRanked (items : List Item) : Type 0 where
+  pub ranked : newest items ≡ items
+  pub few : length items < 2 ^ 32
+
+-- a node of a trie with so many levels, which has children
+pub record IsInner (levels : ℕ) (id : NodeId) : Type 0 where
+  pub node : IsTrue (is_node levels id)
+  pub inner : is_last_level levels id ≡ false
 
 -- valid items in rank order, each key once, and how many of them each table of their cut takes; behind a pile
 pub record IsCut (behind : List ℕ) (items : List Item) (counts : List ℕ) : Type 0 where

@@ -1,20 +1,19 @@
 //! Which of a job's newest items a node gets, and how they are cut into tables.
 
-ghost use Rattle.std.specs.Prelude.{◌≡◌, ◌<◌, ◌≤◌, ◌^◌, IfOk, IsTrue, length, map};
+ghost use Rattle.std.specs.Prelude.{◌≡◌, ◌≤◌, IfOk, IsTrue, map};
 ghost use Rattle.std.specs.List.{list_all};
-ghost use Rattle.lt_terms.specs.Hashes.{key_digit};
 ghost use Rattle.lt_terms.specs.Items.{is_valid};
 ghost use Rattle.lt_tables.specs.Cut.{cut_counts};
-ghost use Rattle.lt_tables.specs.Table.{newest};
 ghost use Rattle.lt_tables.specs.Placement.{entry_of};
 ghost use Rattle.lt_balance.specs.Entries.{AreEntries};
 ghost use Rattle.lt_compact.specs.Choosing.{IsWithin, chosen, is_chosen};
+ghost use Rattle.lt_compact.specs.Sharing.{AreRanked};
 
 use lt_balance::{Entry, cut};
 use lt_bucket::Item;
 use lt_item::cost;
+use lt_merge::{digit_of, is_put};
 use lt_page::NoMemory;
-use lt_terms::Kind;
 use std::alloc::Global;
 
 /// Which of the items a node gets.
@@ -32,8 +31,7 @@ pub(super) fn counts_of(
     choice: Choice,
 ) -> Result<Vec<usize>, NoMemory>
     requires level { IsWithin choice }
-    requires ranked { newest items.now ≡ items.now }
-    requires few { length items.now < 2 ^ 32 }
+    requires items { AreRanked items.now }
     ensures counts { IfOk result (λ counts.
         counts.items ≡ cut_counts (map entry_of (chosen choice items.now))) }
     ensures valid { IfOk result (λ _. IsTrue (list_all is_valid items.now)) }
@@ -78,18 +76,6 @@ fn is_chosen(item: &Item, choice: Choice) -> bool
 {
     match choice {
         Choice::Digit { level, digit } => digit_of(item, level) == digit,
-        Choice::Puts => match item.view().kind {
-            Kind::Put => true,
-            Kind::Delete => false,
-        },
+        Choice::Puts => is_put(item),
     }
-}
-
-/// The digit of an item's key at a level.
-#[tactic(auto, unfolding(lt_item::specs::Parts::parts_of))]
-fn digit_of(item: &Item, level: u8) -> u8
-    requires { level ≤ 3 }
-    ensures { result ≡ key_digit item.now.key level }
-{
-    item.parts().digits[level as usize]
 }

@@ -4,14 +4,13 @@ ghost use Rattle.std.specs.Prelude.{◌≡◌, ℕ, ◌+◌, ◌*◌, ◌^◌, �
 ghost use Rattle.std.specs.Prelude.{length, slice_index, slice_index_or, slice_range, IsTrue, vec_capacity};
 ghost use Rattle.lt_terms.specs.Bytes.{Image, is_in};
 ghost use Rattle.lt_device.specs.Calls.{OnlyReads, OnlyWrites, ReadsAndWrites};
-ghost use Rattle.lt_device.specs.Moments.{ConfinedTo, ShowsSameOutside};
 ghost use Rattle.lt_format.specs.Layout.{extent_block};
 ghost use Rattle.lt_htable.specs.Building.{InExtent};
 ghost use Rattle.lt_image.specs.Standing.{filter_blocks};
 ghost use Rattle.lt_tables.specs.Filter.{IsGroup};
 ghost use Rattle.lt_tables.specs.Table.{blocks_from};
 ghost use Rattle.lt_compact.specs.Plans.{Content, Holds, MayFill, all_contents, extents_for, filters_of};
-ghost use Rattle.lt_compact.specs.Filling.{AreWithin, IsSpot};
+ghost use Rattle.lt_compact.specs.Filling.{AreWithin, IsSpot, TouchesOnly};
 
 use crate::share::Share;
 use lt_bloom::FilterPage;
@@ -44,11 +43,8 @@ pub(super) fn fill<D: Device>(
         (slice_index_or (all_contents geometry.now.levels shares.now numbers.now) filled c)) }
 
     // Whatever it answers, it touches no other block.
-    ensures confined { ConfinedTo (InExtent (extent_block geometry.now (slice_index numbers.now filled)))
+    ensures touches { TouchesOnly (InExtent (extent_block geometry.now (slice_index numbers.now filled)))
         (D.state device.old) (D.state device.new) }
-    ensures others { ShowsSameOutside (InExtent (extent_block geometry.now (slice_index numbers.now filled)))
-        (D.state device.old).shown (D.state device.new).shown }
-    ensures no_sync { (D.state device.new).past ≡ (D.state device.old).past }
     ensures calls { ReadsAndWrites D.Device 64 (IsErrOf result BuildFault.Device) device.old device.new }
 {
     let Spot {
@@ -143,9 +139,7 @@ fn fill_group<D: Device>(
     ensures grouped { OnOk result ((before image : Image) → (D.state device.old).shown ≡ Some before
         → (D.state device.new).shown ≡ Some image
         → IsGroup (filter_blocks geometry.now image tables.now) (blocks_from image first)) }
-    ensures confined { ConfinedTo (InExtent first) (D.state device.old) (D.state device.new) }
-    ensures others { ShowsSameOutside (InExtent first) (D.state device.old).shown (D.state device.new).shown }
-    ensures no_sync { (D.state device.new).past ≡ (D.state device.old).past }
+    ensures touches { TouchesOnly (InExtent first) (D.state device.old) (D.state device.new) }
     ensures calls { ReadsAndWrites D.Device 64 (IsErrOf result BuildFault.Device) device.old device.new }
 {
     let pages = filters_of(alloc, device, geometry, tables)?;

@@ -1,7 +1,7 @@
 //! What is true of a job in flight outlasts what a store does beside it, and its commit keeps what an image
 //! stands for.
 
-ghost use Rattle.std.specs.Prelude.{◌≡◌, ℕ, ◌+◌, ◌<◌, ◌≤◌, ◌||◌, ◌++◌, Bool, List, Ok, Some};
+ghost use Rattle.std.specs.Prelude.{◌≡◌, ℕ, ◌+◌, ◌<◌, ◌≤◌, ◌||◌, ◌++◌, Bool, List, [], Ok, Some};
 ghost use Rattle.std.specs.Prelude.{length, take, slice_index, slice_index_or, IsTrue};
 ghost use Rattle.lt_terms.specs.Items.{Item};
 ghost use Rattle.lt_terms.specs.Bytes.{Image};
@@ -9,26 +9,35 @@ ghost use Rattle.lt_language.specs.Machine.{State};
 ghost use Rattle.lt_format.specs.declared.header.Header.{Header};
 ghost use Rattle.lt_format.specs.declared.node_id.NodeId.{NodeId};
 ghost use Rattle.lt_tables.specs.Table.{newest};
-ghost use Rattle.lt_format.specs.Changes.{Change, are_new, fits, flush, new_extents, after_change};
+ghost use Rattle.lt_format.specs.Changes.{Change, fits, flush, new_extents, after_change};
 ghost use Rattle.lt_format.specs.Snapshot.{Named, may_commit, after_commit};
-ghost use Rattle.lt_format.specs.Trie.{Trie, IsTrie, named, node_at};
+ghost use Rattle.lt_format.specs.Trie.{Trie, all_distinct, named, node_at};
 ghost use Rattle.lt_image.specs.After.{SameExtents};
 ghost use Rattle.lt_image.specs.Needs.{is_slack, waits};
 ghost use Rattle.lt_image.specs.Shares.{Share, needed, shares_of};
 ghost use Rattle.lt_image.specs.Versions.{free_extents, items_at, Opened, open_image};
 ghost use Rattle.lt_image.specs.Standing.{Stands};
-ghost use Rattle.lt_compact.specs.Jobs.{JobView, IsShaped, KeepsJob, KeepsStage, change_of, is_loose, planned};
-ghost use Rattle.lt_compact.specs.Jobs.{filling, is_told_slack, scanning, taken_in};
+ghost use Rattle.lt_compact.specs.Jobs.{HasScanned, HoldsOn, IsReady, IsShaped, JobView, KeepsJob, KeepsStage, Spares};
+ghost use Rattle.lt_compact.specs.Extents.{AllTaken, GoesWith};
+ghost use Rattle.lt_compact.specs.Jobs.{begun, change_of, filling, is_loose, is_told_slack, planned, scanning, taken_in};
 ghost use Rattle.lt_compact.specs.Plans.{Content, Holds, all_contents, are_shared, extents_for};
+
+/// A job as it begins has the shape that the trie wants. A job that has reserved nothing goes with the trie where
+/// the extents that the trie names are taken, whatever others are.
+pub fn jobs_begin()
+    ensures shaped { (levels : ℕ) (trie : Trie) (id : NodeId)
+        → 1 ≤ length (node_at trie id).tables → IsShaped levels trie (begun levels trie id) }
+    ensures goes { (levels : ℕ) (trie : Trie) (taken : List Bool) (j : JobView)
+        → IsShaped levels trie j → taken_in j.stage ≡ [] → AllTaken taken (named trie)
+        → IsTrue (all_distinct (named trie)) → GoesWith levels trie taken j }
+{}
 
 /// The change of a ready job fits the trie, whatever the device tells, and newly names what the job reserved.
 pub fn jobs_fit()
     ensures fits { (levels extents : ℕ) (trie : Trie) (j : JobView) (change : Change)
-        → IsTrie levels extents trie → IsShaped levels trie j → change_of j ≡ Some change
-        → IsTrue (are_new 65536 trie (taken_in j.stage)) → IsTrue (fits levels trie change) }
+        → IsReady levels extents trie j change → IsTrue (fits levels trie change) }
     ensures names { (levels extents : ℕ) (trie : Trie) (j : JobView) (change : Change)
-        → IsTrie levels extents trie → IsShaped levels trie j → change_of j ≡ Some change
-        → IsTrue (are_new 65536 trie (taken_in j.stage)) → new_extents change ≡ taken_in j.stage }
+        → IsReady levels extents trie j change → new_extents change ≡ taken_in j.stage }
 {}
 
 /// The commit of a ready job: where the extents that were named and those of the job are as before, and the
@@ -42,10 +51,7 @@ pub fn jobs_commit()
         → p.named.manifest ≡ after_commit o.named.manifest change header
         → IsTrue (may_commit o.named.geometry.levels o.named.manifest change header)
         → p.groups ≡ o.groups
-        → SameExtents o.named.geometry old new (named o.named.manifest.trie)
-        → SameExtents o.named.geometry old new (taken_in j.stage)
-        → IsShaped o.named.geometry.levels o.named.manifest.trie j → KeepsJob o.named old j
-        → Stands new s }
+        → Spares o.named old new j → HoldsOn o.named old j → Stands new s }
 {}
 
 /// A job in flight outlasts what leaves the extents that are named, and its own: a commit of the log, and a
@@ -54,15 +60,11 @@ pub fn jobs_outlast()
     ensures shaped { (levels : ℕ) (trie : Trie) (tables : List ℕ) (j : JobView) → 2 ≤ levels
         → IsShaped levels trie j → IsShaped levels (after_change trie (flush tables)) j }
     ensures same { (m : Named) (old new : Image) (j : JobView)
-        → SameExtents m.geometry old new (named m.manifest.trie)
-        → SameExtents m.geometry old new (taken_in j.stage)
-        → IsShaped m.geometry.levels m.manifest.trie j → KeepsJob m old j → KeepsJob m new j }
+        → Spares m old new j → HoldsOn m old j → KeepsJob m new j }
     ensures flushed { (m n : Named) (old new : Image) (tables : List ℕ) (j : JobView)
         → 2 ≤ m.geometry.levels → n.geometry ≡ m.geometry
         → n.manifest.trie ≡ after_change m.manifest.trie (flush tables)
-        → SameExtents m.geometry old new (named m.manifest.trie)
-        → SameExtents m.geometry old new (taken_in j.stage)
-        → IsShaped m.geometry.levels m.manifest.trie j → KeepsJob m old j → KeepsJob n new j }
+        → Spares m old new j → HoldsOn m old j → KeepsJob n new j }
 {}
 
 /// What is kept of the tables that were scanned stays true with one table more, and is enough to plan by; the
@@ -96,23 +98,17 @@ pub fn steps_keep()
 /// What was scanned of a node's whole pile tells of the node: where more extents are needed than are free it
 /// waits, when the job plans and when its extents are to be taken; and it has slack as the plan tells.
 pub fn plans_tell()
-    ensures waiting { (m : Named) (image : Image) (j : JobView) (n : ℕ) (kept : List Item)
-        (loose : Bool)
-        → IsShaped m.geometry.levels m.manifest.trie j
-        → j.stage ≡ scanning n kept loose → n ≡ length j.sources
-        → length j.sources ≡ length (node_at m.manifest.trie j.node).tables → KeepsJob m image j
+    ensures waiting { (m : Named) (image : Image) (j : JobView) (kept : List Item) (loose : Bool)
+        → HasScanned m image j kept loose
         → free_extents m < needed m.geometry.levels m.manifest.trie j.node kept
         → IsTrue (waits m image (j.node, node_at m.manifest.trie j.node)) }
-    ensures slack { (m : Named) (image : Image) (j : JobView) (n : ℕ) (kept : List Item)
-        (loose : Bool)
-        → IsShaped m.geometry.levels m.manifest.trie j
-        → j.stage ≡ scanning n kept loose → n ≡ length j.sources
-        → length j.sources ≡ length (node_at m.manifest.trie j.node).tables → KeepsJob m image j
+    ensures slack { (m : Named) (image : Image) (j : JobView) (kept : List Item) (loose : Bool)
+        → HasScanned m image j kept loose
         → is_slack m image (j.node, node_at m.manifest.trie j.node)
         ≡ is_told_slack m.geometry.levels m.manifest.trie j.node kept loose }
     ensures short { (m : Named) (image : Image) (j : JobView) (shares : List Share)
-        → IsShaped m.geometry.levels m.manifest.trie j → j.stage ≡ planned shares
-        → length j.sources ≡ length (node_at m.manifest.trie j.node).tables → KeepsJob m image j
+        → HoldsOn m image j → j.stage ≡ planned shares
+        → length j.sources ≡ length (node_at m.manifest.trie j.node).tables
         → free_extents m < extents_for m.geometry.levels shares
         → IsTrue (waits m image (j.node, node_at m.manifest.trie j.node)) }
 {}

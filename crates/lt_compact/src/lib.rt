@@ -16,5 +16,5 @@ mod taking;
 
 pub use faults::JobFault;
 pub use job::Job;
-pub use laws::{jobs_commit, jobs_fit, jobs_outlast, plans_tell, steps_keep};
+pub use laws::{jobs_begin, jobs_commit, jobs_fit, jobs_outlast, plans_tell, steps_keep};
 pub use step::Stepped;

@@ -2,21 +2,20 @@
 
 ghost use Rattle.std.specs.Prelude.{◌≡◌, ◌+◌, ◌<◌, ◌≤◌, ◌^◌, ◌||◌, ◌&&◌, [], not, nat_lt, IfOk, OnOk, OnErr, IsTrue};
 ghost use Rattle.std.specs.Prelude.{length};
-ghost use Rattle.std.specs.List.{flat_map, list_any};
+ghost use Rattle.std.specs.List.{list_any};
 ghost use Rattle.lt_tables.specs.Table.{is_put, newest};
 ghost use Rattle.lt_format.specs.Trie.{is_last_level, is_node, node_at};
 ghost use Rattle.lt_image.specs.Shares.{needed, shares_of};
-ghost use Rattle.lt_compact.specs.Jobs.{is_loose, is_told_slack};
+ghost use Rattle.lt_compact.specs.Jobs.{all_items, is_loose, is_told_slack};
 ghost use Rattle.lt_compact.specs.Plans.{extents_for};
 
 use crate::share::{Share, is_last_level};
 use crate::sharing::shares_of;
 use lt_bucket::Item;
 use lt_format::NodeId;
-use lt_merge::newest;
+use lt_merge::{is_put, newest};
 use lt_node::Trie;
 use lt_page::NoMemory;
-use lt_terms::Kind;
 use std::alloc::Global;
 
 /// What a job's tables become, how many extents that needs, and whether a last-level node has slack.
@@ -38,23 +37,23 @@ pub(super) fn plan_lists(
 ) -> Result<Plan, NoMemory>
     requires node { IsTrue (is_node trie.now.levels node) }
     // As many items as 65,536 tables hold at most.
-    requires few { length (flat_map (λ list. list.items) lists.old.items) ≤ 3422552064 }
+    requires few { length (all_items lists.old.items) ≤ 3422552064 }
     ensures shares { IfOk result (λ plan. plan.shares.items ≡ shares_of trie.now.levels
-        trie.now.nodes node (newest (flat_map (λ list. list.items) lists.old.items))) }
+        trie.now.nodes node (newest (all_items lists.old.items))) }
     ensures needed { IfOk result (λ plan. plan.needed ≡ needed trie.now.levels
-        trie.now.nodes node (newest (flat_map (λ list. list.items) lists.old.items))) }
+        trie.now.nodes node (newest (all_items lists.old.items))) }
     ensures extents { IfOk result (λ plan.
         plan.needed ≡ extents_for trie.now.levels plan.shares.items) }
     ensures slack { IfOk result (λ plan.
-        let items = flat_map (λ list. list.items) lists.old.items in
+        let items = all_items lists.old.items in
         plan.slack ≡ is_told_slack trie.now.levels trie.now.nodes node (newest items)
         (loose.old || is_loose items)) }
-    ensures kept { OnErr result (newest (flat_map (λ list. list.items) lists.new.items)
-        ≡ newest (flat_map (λ list. list.items) lists.old.items)) }
-    ensures loose { OnErr result ((loose.new || is_loose (flat_map (λ list. list.items) lists.new.items))
-        ≡ (loose.old || is_loose (flat_map (λ list. list.items) lists.old.items))) }
-    ensures fewer { length (flat_map (λ list. list.items) lists.new.items)
-        ≤ length (flat_map (λ list. list.items) lists.old.items) }
+    ensures kept { OnErr result (newest (all_items lists.new.items)
+        ≡ newest (all_items lists.old.items)) }
+    ensures loose { OnErr result ((loose.new || is_loose (all_items lists.new.items))
+        ≡ (loose.old || is_loose (all_items lists.old.items))) }
+    ensures fewer { length (all_items lists.new.items)
+        ≤ length (all_items lists.old.items) }
 {
     let mut room = Vec::with_capacity(alloc, 1)?;
     let mut kept = merged(alloc, lists, loose)?;
@@ -75,11 +74,11 @@ fn merged(
     lists: &mut Vec<Vec<Item>>,
     loose: &mut bool,
 ) -> Result<Vec<Item>, NoMemory>
-    requires few { length (flat_map (λ list. list.items) lists.old.items) ≤ 3422552064 }
+    requires few { length (all_items lists.old.items) ≤ 3422552064 }
     ensures newest { IfOk result (λ kept.
-        kept.items ≡ newest (flat_map (λ list. list.items) lists.old.items)) }
+        kept.items ≡ newest (all_items lists.old.items)) }
     ensures loose { OnOk result (loose.new
-        ≡ (loose.old || is_loose (flat_map (λ list. list.items) lists.old.items))) }
+        ≡ (loose.old || is_loose (all_items lists.old.items))) }
     ensures emptied { OnOk result (lists.new.items ≡ []) }
     ensures kept { OnErr result ((lists.new.items ≡ lists.old.items) × (loose.new ≡ loose.old)) }
 {
@@ -100,8 +99,8 @@ fn told(loose: bool, deletes: bool, keys: usize, items: usize) -> bool
 
 /// How many items lists have.
 fn count(lists: &[Vec<Item>]) -> usize
-    requires { length (flat_map (λ list. list.items) lists.now) ≤ 3422552064 }
-    ensures { result ≡ length (flat_map (λ list. list.items) lists.now) }
+    requires { length (all_items lists.now) ≤ 3422552064 }
+    ensures { result ≡ length (all_items lists.now) }
 {
     let mut count = 0;
     for list in lists {
@@ -112,7 +111,7 @@ fn count(lists: &[Vec<Item>]) -> usize
 
 /// Whether some item of the lists is a delete.
 fn have_deletes(lists: &[Vec<Item>]) -> bool
-    ensures { result ≡ list_any (λ v. not (is_put v)) (flat_map (λ list. list.items) lists.now) }
+    ensures { result ≡ list_any (λ v. not (is_put v)) (all_items lists.now) }
 {
     for list in lists {
         if has_delete(list) {
@@ -131,10 +130,7 @@ fn has_delete(items: &[Item]) -> bool
 fn is_delete(item: &Item) -> bool
     ensures { result ≡ not (is_put item.now) }
 {
-    match item.view().kind {
-        Kind::Put => false,
-        Kind::Delete => true,
-    }
+    !is_put(item)
 }
 
 /// The plan of these shares.

@@ -1,13 +1,12 @@
 //! How a job's newest items are shared out.
 
-ghost use Rattle.std.specs.Prelude.{◌≡◌, ◌<◌, ◌≤◌, ◌∷◌, ◌^◌, [], false, IfOk, OnErr, IsTrue, length, map};
+ghost use Rattle.std.specs.Prelude.{◌≡◌, ◌<◌, ◌≤◌, ◌∷◌, [], IfOk, OnErr, IsTrue, length, map};
 ghost use Rattle.std.specs.Prelude.{vec_len, vec_capacity};
 ghost use Rattle.std.specs.List.{filter, list_all, range_with_len};
 ghost use Rattle.lt_terms.specs.Items.{is_valid};
-ghost use Rattle.lt_tables.specs.Table.{newest, with_digit};
-ghost use Rattle.lt_format.specs.Trie.{child, is_last_level, is_node, node_at};
+ghost use Rattle.lt_format.specs.Trie.{child, is_node};
 ghost use Rattle.lt_image.specs.Shares.{child_share, deal_shares, has_tables, rewrite_share, shares_of};
-ghost use Rattle.lt_compact.specs.Sharing.{AreFrames, all_framed, frame_of};
+ghost use Rattle.lt_compact.specs.Sharing.{AreFrames, AreRanked, IsInner, all_framed, frame_of};
 
 use crate::choosing::{Choice, counts_of};
 use crate::share::{Share, is_last_level};
@@ -50,8 +49,7 @@ pub(super) fn shares_of(
     kept: &mut Vec<Item>,
 ) -> Result<Vec<Share>, NoMemory>
     requires node { IsTrue (is_node trie.now.levels node) }
-    requires ranked { newest kept.old.items ≡ kept.old.items }
-    requires few { length kept.old.items < 2 ^ 32 }
+    requires items { AreRanked kept.old.items }
     ensures shares { IfOk result (λ shares.
         shares.items ≡ shares_of trie.now.levels trie.now.nodes node kept.old.items) }
     ensures valid { IfOk result (λ _. IsTrue (list_all is_valid kept.old.items)) }
@@ -66,8 +64,7 @@ pub(super) fn shares_of(
 
 /// The tables of a rewriting: of the puts among the items.
 fn rewriting(alloc: Global, node: NodeId, kept: &mut Vec<Item>) -> Result<Vec<Share>, NoMemory>
-    requires ranked { newest kept.old.items ≡ kept.old.items }
-    requires few { length kept.old.items < 2 ^ 32 }
+    requires items { AreRanked kept.old.items }
     ensures shares { IfOk result (λ shares. shares.items ≡ rewrite_share node kept.old.items ∷ []) }
     ensures valid { IfOk result (λ _. IsTrue (list_all is_valid kept.old.items)) }
     ensures kept { OnErr result (kept.new.items ≡ kept.old.items) }
@@ -87,10 +84,8 @@ fn dealing(
     node: NodeId,
     kept: &mut Vec<Item>,
 ) -> Result<Vec<Share>, NoMemory>
-    requires node { IsTrue (is_node trie.now.levels node) }
-    requires inner { is_last_level trie.now.levels node ≡ false }
-    requires ranked { newest kept.old.items ≡ kept.old.items }
-    requires few { length kept.old.items < 2 ^ 32 }
+    requires inner { IsInner trie.now.levels node }
+    requires items { AreRanked kept.old.items }
     ensures shares { IfOk result (λ shares.
         shares.items ≡ deal_shares trie.now.nodes node kept.old.items) }
     ensures valid { IfOk result (λ _. IsTrue (list_all is_valid kept.old.items)) }
@@ -111,10 +106,8 @@ fn frames_of(
     node: NodeId,
     kept: &[Item],
 ) -> Result<Vec<Frame>, NoMemory>
-    requires node { IsTrue (is_node trie.now.levels node) }
-    requires inner { is_last_level trie.now.levels node ≡ false }
-    requires ranked { newest kept.now ≡ kept.now }
-    requires few { length kept.now < 2 ^ 32 }
+    requires inner { IsInner trie.now.levels node }
+    requires items { AreRanked kept.now }
     ensures frames { IfOk result (λ frames.
         frames.items ≡ map (frame_of trie.now.nodes node kept.now) (range_with_len 0 8)) }
     ensures valid { IfOk result (λ _. IsTrue (list_all is_valid kept.now)) }
@@ -134,11 +127,9 @@ fn frame_of(
     kept: &[Item],
     digit: u8,
 ) -> Result<Frame, NoMemory>
-    requires node { IsTrue (is_node trie.now.levels node) }
-    requires inner { is_last_level trie.now.levels node ≡ false }
+    requires inner { IsInner trie.now.levels node }
     requires digit { digit < 8 }
-    requires ranked { newest kept.now ≡ kept.now }
-    requires few { length kept.now < 2 ^ 32 }
+    requires items { AreRanked kept.now }
     ensures frame { IfOk result (λ frame. frame ≡ frame_of trie.now.nodes node kept.now digit) }
     ensures valid { IfOk result (λ _. IsTrue (list_all is_valid kept.now)) }
 {
@@ -157,8 +148,7 @@ fn frame_of(
 
 /// The child for a digit of a node that is not of the last level.
 fn child(trie: &Trie, node: NodeId, digit: u8) -> NodeId
-    requires node { IsTrue (is_node trie.now.levels node) }
-    requires inner { is_last_level trie.now.levels node ≡ false }
+    requires inner { IsInner trie.now.levels node }
     requires digit { digit < 8 }
     ensures child { result ≡ child node digit }
     ensures level { node.level ≤ 3 }

@@ -4,16 +4,13 @@ ghost use Rattle.std.specs.Prelude.{◌≡◌, ℕ, ◌+◌, ◌<◌, ◌≤◌,
 ghost use Rattle.std.specs.Prelude.{IfOk, IfErr, OnErr, IsErrOf, IsTrue, length, vec_capacity, vec_len};
 ghost use Rattle.lt_terms.specs.Bytes.{Image, is_in};
 ghost use Rattle.lt_device.specs.Calls.{OnlyReads, ReadsAndWrites};
-ghost use Rattle.lt_device.specs.Moments.{ConfinedTo, ShowsSameOutside};
 ghost use Rattle.lt_format.specs.Layout.{blocks_needed, extent_block};
 ghost use Rattle.lt_format.specs.Snapshot.{Named};
 ghost use Rattle.lt_format.specs.Trie as format;
-ghost use Rattle.lt_format.specs.Trie.{all_distinct, named};
-ghost use Rattle.lt_image.specs.Shares.{Share};
-ghost use Rattle.lt_compact.specs.Extents.{AllTaken};
+ghost use Rattle.lt_compact.specs.Extents.{GoesWith};
+ghost use Rattle.lt_compact.specs.Filling.{MayFillNext, TouchesOnly};
 ghost use Rattle.lt_compact.specs.Inside.{kept_of};
-ghost use Rattle.lt_compact.specs.Plans.{MayFill};
-ghost use Rattle.lt_compact.specs.Jobs.{IsShaped, KeepsJob, filling, is_filled, taken_in};
+ghost use Rattle.lt_compact.specs.Jobs.{IsShaped, KeepsJob, is_filled};
 ghost use Rattle.lt_compact.specs.Steps.{Advances, InExtents, IsDamaged, is_ready, made_by, next_extents};
 ghost use Rattle.lt_compact.specs.Steps.{steps_made, turn_of};
 ghost use Rattle.lt_format.specs.declared.geometry.Geometry.{Geometry};
@@ -67,9 +64,7 @@ impl Job {
     ) -> Result<Stepped, JobFault>
         requires levels { trie.now.levels ≡ geometry.now.levels }
         requires not_ready { is_filled self.old.stage ≡ false }
-        requires shaped { IsShaped geometry.now.levels trie.now.nodes self.old }
-        requires taken { AllTaken extents.old (named trie.now.nodes ++ taken_in self.old.stage) }
-        requires apart { IsTrue (all_distinct (named trie.now.nodes ++ taken_in self.old.stage)) }
+        requires goes { GoesWith geometry.now.levels trie.now.nodes extents.old self.old }
         requires within { blocks_needed geometry.now (length extents.old) ≤ D.blocks device.old }
 
         // What it answers, and what it leaves. After an `Err` neither job nor extents have changed.
@@ -83,21 +78,16 @@ impl Job {
         ensures extents { OnErr result (extents.new ≡ extents.old) }
 
         // What is true of a job stays true, whatever it answers.
-        ensures shaped { IsShaped geometry.now.levels trie.now.nodes self.new }
+        ensures goes { GoesWith geometry.now.levels trie.now.nodes extents.new self.new }
         ensures keeps { (m : Named) (before image : Image) → m.geometry ≡ geometry.now
             → m.manifest.trie ≡ trie.now.nodes → (D.state device.old).shown ≡ Some before
             → (D.state device.new).shown ≡ Some image → KeepsJob m before self.old
             → KeepsJob m image self.new }
-        ensures taken { AllTaken extents.new (named trie.now.nodes ++ taken_in self.new.stage) }
-        ensures apart { IsTrue (all_distinct (named trie.now.nodes ++ taken_in self.new.stage)) }
         ensures count { length extents.new ≡ length extents.old }
 
         // It touches no block but of the extent that it fills, and syncs nothing.
-        ensures confined { ConfinedTo (InExtents geometry.now (next_extents self.old.stage))
+        ensures touches { TouchesOnly (InExtents geometry.now (next_extents self.old.stage))
             (D.state device.old) (D.state device.new) }
-        ensures others { ShowsSameOutside (InExtents geometry.now (next_extents self.old.stage))
-            (D.state device.old).shown (D.state device.new).shown }
-        ensures no_sync { (D.state device.new).past ≡ (D.state device.old).past }
         ensures damaged { (b : ℕ) → IsErrOf result (JobFault.Damaged b)
             → IsDamaged geometry.now (D.state device.old).shown self.old.sources b }
         ensures calls { ReadsAndWrites D.Device 64 (IsErrOf result JobFault.Device)
@@ -229,20 +219,13 @@ impl Job {
     ) -> Result<Stepped, JobFault>
         requires turn { turn_of self.old ≡ Turn.Fill }
         requires levels { self.old.levels ≡ geometry.now.levels }
-        requires left { (shares : List Share) (numbers : List ℕ) (filled : ℕ)
-            → self.old.stage ≡ filling shares numbers filled → filled < length numbers }
-        requires may { (shares : List Share) (numbers : List ℕ) (filled : ℕ)
-            → self.old.stage ≡ filling shares numbers filled
-            → MayFill geometry.now (D.blocks device.old) shares numbers }
+        requires next { MayFillNext geometry.now (D.blocks device.old) self.old.stage }
         ensures next { IfOk result (λ stepped. (nodes : format.Trie) (taken : List Bool)
             → Advances geometry.now (D.state device.old).shown (D.state device.new).shown nodes
             taken taken self.old self.new stepped) }
         ensures unchanged { OnErr result (self.new ≡ self.old) }
-        ensures confined { ConfinedTo (InExtents geometry.now (next_extents self.old.stage))
+        ensures touches { TouchesOnly (InExtents geometry.now (next_extents self.old.stage))
             (D.state device.old) (D.state device.new) }
-        ensures others { ShowsSameOutside (InExtents geometry.now (next_extents self.old.stage))
-            (D.state device.old).shown (D.state device.new).shown }
-        ensures no_sync { (D.state device.new).past ≡ (D.state device.old).past }
         ensures only { (b : ℕ) → IsErrOf result (JobFault.Damaged b) → ⊥ }
         ensures calls { ReadsAndWrites D.Device 64 (IsErrOf result JobFault.Device)
             device.old device.new }

@@ -1,9 +1,9 @@
 //! Writing a group.
 
-ghost use Rattle.std.specs.Prelude.{◌≡◌, ◌+◌, ◌<◌, ◌≤◌, ℕ, Some, OnOk, IsErrOf, length};
-ghost use Rattle.lt_terms.specs.Bytes.{Image, IsBlock};
-ghost use Rattle.lt_terms.specs.Causes.{HasCause, Rose};
-ghost use Rattle.lt_device.specs.Moments.{ConfinedTo, ShowsSameOutside};
+ghost use Rattle.std.specs.Prelude.{◌≡◌, ◌+◌, ◌<◌, ◌≤◌, ℕ, OnOk, IsErr, IsErrOf, length};
+ghost use Rattle.std.specs.Option.{ForSome};
+ghost use Rattle.lt_terms.specs.Bytes.{IsBlock};
+ghost use Rattle.lt_device.specs.Calls.{FillsOnly};
 ghost use Rattle.lt_tables.specs.Filter.{IsGroup, filter_in, group_block};
 ghost use Rattle.lt_tables.specs.Table.{blocks_from};
 ghost use Rattle.lt_container.specs.Columns.{InColumns, HasColumns};
@@ -27,20 +27,13 @@ pub fn write_group<D: Device>(
     requires within { first + 65 ≤ D.blocks device.old }
     requires some { 1 ≤ length filters.now }
     requires few { length filters.now ≤ 64 }
-    ensures grouped { OnOk result ((image : Image) → (D.state device.new).shown ≡ Some image
-        → IsGroup filters.now (blocks_from image first)) }
+    ensures grouped { OnOk result (ForSome (D.state device.new).shown
+        (λ image. IsGroup filters.now (blocks_from image first))) }
 
-    // Whatever it answers, it touches no other block and syncs nothing.
-    ensures confined { ConfinedTo (InColumns first) (D.state device.old) (D.state device.new) }
-    ensures others { ShowsSameOutside (InColumns first) (D.state device.old).shown (D.state device.new).shown }
-    ensures no_sync { (D.state device.new).past ≡ (D.state device.old).past }
+    // Whatever it answers, it writes no other block and syncs nothing.
+    ensures fills { FillsOnly D.Device (InColumns first) (IsErrOf result GroupFault.Device)
+        device.old device.new }
     ensures no_memory { IsErrOf result GroupFault.NoMemory → device.new ≡ device.old }
-
-    ensures size { D.blocks device.new ≡ D.blocks device.old }
-    ensures count { D.reads device.new ≡ D.reads device.old }
-    ensures later { D.faults device.old ≤ D.faults device.new }
-    ensures cause { IsErrOf result GroupFault.Device
-        → Rose (D.faults device.old) (D.faults device.new) }
 {
     let mut page = Page::new(alloc)?;
     write_columns(device, first, filters, &mut page)?;
@@ -57,12 +50,7 @@ fn write_columns<D: Device>(
     requires within { first + 65 ≤ D.blocks device.old }
     requires few { length filters.now ≤ 64 }
     ensures columns { OnOk result (HasColumns filters.now first 64 (D.state device.new).shown) }
-    ensures confined { ConfinedTo (InColumns first) (D.state device.old) (D.state device.new) }
-    ensures others { ShowsSameOutside (InColumns first) (D.state device.old).shown (D.state device.new).shown }
-    ensures no_sync { (D.state device.new).past ≡ (D.state device.old).past }
-    ensures size { D.blocks device.new ≡ D.blocks device.old }
-    ensures count { D.reads device.new ≡ D.reads device.old }
-    ensures cause { HasCause (D.faults device.old) (D.faults device.new) result }
+    ensures fills { FillsOnly D.Device (InColumns first) (IsErr result) device.old device.new }
 {
     for column in 0..64u8 {
         fill_column(page, filters, column);

@@ -8,3 +8,4 @@ pub mod Runs
 pub mod Shows
 pub mod Silent
 pub mod Steps
+pub mod TouchLaws

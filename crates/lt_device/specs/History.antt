@@ -1,5 +1,5 @@
 -- The history of a device in memory, the newest first, and what it tells of the blocks that it led to.
-use Rattle.std.specs.Prelude.{◌≡◌, ℕ, ◌<◌, Bool, true, false, List, [], ◌∷◌, ◌++◌, length, map, replicate, drop}
+use Rattle.std.specs.Prelude.{◌≡◌, ℕ, ◌-◌, ◌<◌, Bool, true, false, List, [], ◌∷◌, ◌++◌, length, map, replicate, drop}
 use Rattle.std.specs.Prelude.{slice_index_or, slice_set}
 use Rattle.lt_terms.specs.Bytes.{Image}
 use Rattle.lt_device.specs.State.{Epoch}
@@ -25,6 +25,12 @@ made_of entries = map (λ entry. made_by entry.step entry.before) entries
 -- what was made so far, the newest first
 abbrev pub made : History → List Made
 made history = made_of (drop history.room history.entries.items)
+
+-- this was added to the history, which had room for it
+pub record Grows (newest : Made) (old new : History) : Type 0 where
+  pub added : made new ≡ newest ∷ made old
+  pub less_room : new.room ≡ old.room - 1
+  pub same_limit : length new.entries.items ≡ length old.entries.items
 
 -- the blocks as they were at the last sync, or where there is none at the start
 abbrev pub stable_of : List Made → Image → Image

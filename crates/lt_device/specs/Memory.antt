@@ -4,7 +4,9 @@ use Rattle.std.specs.Prelude.{replicate, count_by, nat_le, slice_index_or, slice
 use Rattle.std.specs.List.{All, list_any}
 use Rattle.lt_terms.specs.Bytes.{Image, block_at}
 use Rattle.lt_terms.specs.Causes.{next_count}
-use Rattle.lt_device.specs.State.{Epoch, State}
+use Rattle.lt_device.specs.Moments.{MayLeave}
+use Rattle.lt_device.specs.State.{Epoch, State, Wrote}
+use Rattle.lt_device.specs.declared.device.Device.{Ghosts}
 use Rattle.lt_device.specs.declared.pick.Pick.{Pick}
 use Rattle.lt_device.specs.declared.pick.Pick.TheVariants.{Stable, Written, Filled}
 
@@ -30,6 +32,15 @@ pub record Memory : Type 0 where
 -- it tells all
 abbrev pub memory_state : Memory → State
 memory_state d = record { shown = Some d.shown; unsynced = Some d.unsynced; past = Some d.past }
+
+-- what a device in memory says of itself
+abbrev pub memory_device : Ghosts Memory
+memory_device = record {
+  blocks = λ d. length d.shown;
+  reads = λ d. d.reads;
+  faults = λ d. d.faults;
+  state = memory_state;
+}
 
 -- a device over these blocks that nothing happened to
 abbrev pub fresh : Image → ℕ → List ℕ → Option ℕ → Memory
@@ -89,6 +100,10 @@ abbrev pub after_write : Memory → ℕ → List ℕ → Memory
 after_write d block page =
     called (if is_full d then left_unsynced d block else recorded d block page) (is_failing d || is_full d)
 
+-- what the device tells then is what a write of the block leaves, whatever it answered
+abbrev pub TellsWrite : ℕ → Memory → Memory → Type 0
+TellsWrite block old new = Wrote (length old.shown) block (memory_state old) (memory_state new)
+
 -- all blocks are synced
 abbrev pub all_synced : Memory → Memory
 all_synced d = record d {
@@ -143,3 +158,8 @@ pub record IsPicked (picks : List Pick) (d : Memory) (left : Image) : Type 0 whe
   pub synced : (k : ℕ) → slice_index_or d.unsynced k false ≡ false → block_at left k ≡ block_at d.shown k
   pub unsynced : (k : ℕ) → slice_index_or d.unsynced k false ≡ true
       → block_at left k ≡ picked (pick_of picks d.unsynced k) (block_at d.stable k) (block_at d.shown k)
+
+-- this is the image that these picks name, and a crash may leave it
+pub record IsLeft (picks : List Pick) (d : Memory) (left : Image) : Type 0 where
+  pub picked : IsPicked picks d left
+  pub may : MayLeave (memory_state d) left

@@ -1,6 +1,6 @@
 //! The history of a device in memory: its writes and syncs so far.
 
-ghost use Rattle.std.specs.Prelude.{◌≡◌, ℕ, ◌+◌, ◌-◌, ◌<◌, ◌≤◌, All, IfOk, List, [], ◌∷◌, drop, length};
+ghost use Rattle.std.specs.Prelude.{◌≡◌, ℕ, ◌<◌, ◌≤◌, All, IfOk, List, [], length};
 ghost use Rattle.lt_terms.specs.Bytes.{AreBlocks, IsBlock};
 
 use super::store::zero_pages;
@@ -33,7 +33,7 @@ pub struct History {
 }
 
 impl History {
-    ghost use Rattle.lt_device.specs.History.{WritesBelow, made, stable_of, synced, wrote};
+    ghost use Rattle.lt_device.specs.History.{Grows, WritesBelow, made, stable_of, synced, wrote};
 
     /// An empty history with room for so many.
     pub fn new(alloc: Global, limit: usize) -> Result<History, NoMemory>
@@ -57,9 +57,7 @@ impl History {
     /// Adds a write of a block that held this before.
     pub fn write(&mut self, block: u64, before: &Page)
         requires { 0 < self.old.room }
-        ensures made { made self.new ≡ wrote block before.now ∷ made self.old }
-        ensures room { self.new.room ≡ self.old.room - 1 }
-        ensures limit { length self.new.entries.items ≡ length self.old.entries.items }
+        ensures { Grows (wrote block before.now) self.old self.new }
     {
         self.room -= 1;
         let entry = &mut self.entries[self.room];
@@ -70,9 +68,7 @@ impl History {
     /// Adds a sync.
     pub fn sync(&mut self)
         requires { 0 < self.old.room }
-        ensures made { made self.new ≡ synced ∷ made self.old }
-        ensures room { self.new.room ≡ self.old.room - 1 }
-        ensures limit { length self.new.entries.items ≡ length self.old.entries.items }
+        ensures { Grows synced self.old self.new }
     {
         self.room -= 1;
         self.entries[self.room].step = Step::Sync;

@@ -1,13 +1,12 @@
 //! A device in memory that fails as it is told to, and keeps what a crash may leave.
 
-ghost use Rattle.std.specs.Prelude.{◌≡◌, ℕ, ◌<◌, ◌||◌, ◌↔◌, IfOk, IsErr, IsTrue, OnErr, OnOk, length, replicate};
-ghost use Rattle.std.specs.Option.{ForSome};
+ghost use Rattle.std.specs.Prelude.{◌≡◌, ℕ, ◌<◌, ◌||◌, ◌↔◌, IfOk, IsErr, IsTrue, OnErr, length, replicate};
 ghost use Rattle.lt_terms.specs.Bytes.{AreBlocks, block_at, zero_block};
-ghost use Rattle.lt_terms.specs.Causes.{CountsOne, HasCause};
-ghost use Rattle.lt_device.specs.State.{EndedSync, IsFit, Wrote, synced, written};
-ghost use Rattle.lt_device.specs.Memory.{IsSynced, IsPicked, after_read, after_sync, after_write, all_synced, called};
-ghost use Rattle.lt_device.specs.Memory.{fresh, is_failing, is_full, left_unsynced, memory_state, patched, recorded};
-ghost use Rattle.lt_device.specs.Moments.{MayLeave};
+ghost use Rattle.lt_device.specs.Calls.{ReadsBlock, Syncs, WritesBlock};
+ghost use Rattle.lt_device.specs.State.{IsFit};
+ghost use Rattle.lt_device.specs.Memory.{IsLeft, IsSynced, TellsWrite, after_read, after_sync, after_write, all_synced};
+ghost use Rattle.lt_device.specs.Memory.{called, fresh, is_failing, is_full, left_unsynced, memory_device};
+ghost use Rattle.lt_device.specs.Memory.{memory_state, patched, recorded};
 
 use super::device::Device;
 use super::history::History;
@@ -92,8 +91,7 @@ impl MemDevice {
         failing: Vec<u64>,
         stop: Option<u64>,
     ) -> Result<MemDevice, NoMemory>
-        ensures picked { IfOk result (λ device. IsPicked picks.now self.now device.shown) }
-        ensures left { IfOk result (λ device. MayLeave (memory_state self.now) device.shown) }
+        ensures left { IfOk result (λ device. IsLeft picks.now self.now device.shown) }
         ensures fresh { IfOk result
             (λ device. device ≡ fresh device.shown limit failing.items stop) }
     {
@@ -168,8 +166,7 @@ impl MemDevice {
     /// Changes the blocks, which are as they read, to what these picks leave.
     fn leave(&self, picks: &[Pick], pages: &mut [Page])
         requires { pages.old ≡ self.now.shown }
-        ensures picked { IsPicked picks.now self.now pages.new }
-        ensures left { MayLeave (memory_state self.now) pages.new }
+        ensures left { IsLeft picks.now self.now pages.new }
         ensures blocks { AreBlocks pages.new }
     {
         self.history.undo(pages);
@@ -196,8 +193,7 @@ impl MemDevice {
         requires below { block < length self.old.shown }
         requires room { 0 < self.old.room }
         ensures recorded { self.new ≡ recorded self.old block from.now }
-        ensures wrote { Wrote (length self.old.shown) block
-            (memory_state self.old) (memory_state self.new) }
+        ensures wrote { TellsWrite block self.old self.new }
     {
         self.history.write(block, &self.store.pages[block as usize]);
         self.store.write(block as usize, from);
@@ -208,8 +204,7 @@ impl MemDevice {
         requires below { block < length self.old.shown }
         requires full { self.old.room ≡ 0 }
         ensures unsynced { self.new ≡ left_unsynced self.old block }
-        ensures wrote { Wrote (length self.old.shown) block
-            (memory_state self.old) (memory_state self.new) }
+        ensures wrote { TellsWrite block self.old self.new }
     {
         self.store.unsynced[block as usize] = true;
     }
@@ -259,12 +254,7 @@ impl Device for MemDevice {
         ensures fails { IsErr result ↔ IsTrue (is_failing self.old) }
         ensures becomes { self.new ≡ after_read self.old }
         ensures untouched { OnErr result (into.new ≡ into.old) }
-
-        ensures content { OnOk result (into.new ≡ block_at self.old.shown block) }
-        ensures state { memory_state self.new ≡ memory_state self.old }
-        ensures size { length self.new.shown ≡ length self.old.shown }
-        ensures count { CountsOne self.old.reads self.new.reads }
-        ensures cause { HasCause self.old.faults self.new.faults result }
+        ensures reads { ReadsBlock memory_device block self.old self.new into.new result }
     {
         let fails = self.is_failing();
         if !fails {
@@ -278,14 +268,7 @@ impl Device for MemDevice {
         requires { block < length self.old.shown }
         ensures fails { IsErr result ↔ IsTrue (is_failing self.old || is_full self.old) }
         ensures becomes { self.new ≡ after_write self.old block from.now }
-
-        ensures ok { OnOk result
-            (memory_state self.new ≡ written (memory_state self.old) block from.now) }
-        ensures wrote { Wrote (length self.old.shown) block
-            (memory_state self.old) (memory_state self.new) }
-        ensures size { length self.new.shown ≡ length self.old.shown }
-        ensures count { self.new.reads ≡ self.old.reads }
-        ensures cause { HasCause self.old.faults self.new.faults result }
+        ensures writes { WritesBlock memory_device block from.now self.old self.new result }
     {
         let fails = self.is_failing() || self.is_full();
         if self.is_full() {
@@ -299,14 +282,7 @@ impl Device for MemDevice {
     fn sync(&mut self) -> Result<(), Failed>
         ensures fails { IsErr result ↔ IsTrue (is_failing self.old || is_full self.old) }
         ensures becomes { self.new ≡ after_sync self.old }
-
-        ensures ok { OnOk result (memory_state self.new ≡ synced (memory_state self.old)) }
-        ensures err { OnErr result (memory_state self.new ≡ memory_state self.old) }
-        ensures ended { EndedSync (length self.old.shown)
-            (memory_state self.old) (memory_state self.new) }
-        ensures size { length self.new.shown ≡ length self.old.shown }
-        ensures count { self.new.reads ≡ self.old.reads }
-        ensures cause { HasCause self.old.faults self.new.faults result }
+        ensures syncs { Syncs memory_device self.old self.new result }
     {
         let fails = self.is_failing() || self.is_full();
         if !fails {

@@ -1,11 +1,10 @@
 //! A device in memory that never fails.
 
-ghost use Rattle.std.specs.Prelude.{◌≡◌, ℕ, ◌<◌, IfOk, IsOk, OnErr, OnOk, false, length, replicate};
-ghost use Rattle.std.specs.Option.{ForSome};
-ghost use Rattle.lt_terms.specs.Bytes.{block_at, zero_block};
-ghost use Rattle.lt_terms.specs.Causes.{CountsOne, HasCause, next_count};
-ghost use Rattle.lt_device.specs.State.{EndedSync, IsFit, Wrote, synced, written};
-ghost use Rattle.lt_device.specs.Steady.{steady_state};
+ghost use Rattle.std.specs.Prelude.{◌≡◌, ℕ, ◌<◌, IfOk, IsOk, false, length, replicate};
+ghost use Rattle.lt_terms.specs.Bytes.{zero_block};
+ghost use Rattle.lt_terms.specs.Causes.{next_count};
+ghost use Rattle.lt_device.specs.Calls.{ReadsBlock, Syncs, WritesBlock};
+ghost use Rattle.lt_device.specs.Steady.{steady_device, steady_state};
 
 use super::device::Device;
 use super::store::Store;
@@ -69,11 +68,8 @@ impl Device for Steady {
     fn read(&mut self, block: u64, into: &mut Page) -> Result<(), Failed>
         requires { block < length self.old.shown }
         ensures ok { IsOk result }
-        ensures content { into.new ≡ block_at self.old.shown block }
-        ensures state { steady_state self.new ≡ steady_state self.old }
         ensures counted { self.new.reads ≡ next_count self.old.reads }
-        ensures size { length self.new.shown ≡ length self.old.shown }
-        ensures count { CountsOne self.old.reads self.new.reads }
+        ensures reads { ReadsBlock steady_device block self.old self.new into.new result }
     {
         into.copy_from(&self.store.pages[block as usize]);
         self.reads = self.reads.saturating_add(1);
@@ -83,11 +79,7 @@ impl Device for Steady {
     fn write(&mut self, block: u64, from: &Page) -> Result<(), Failed>
         requires { block < length self.old.shown }
         ensures answers { IsOk result }
-        ensures ok { steady_state self.new ≡ written (steady_state self.old) block from.now }
-        ensures wrote { Wrote (length self.old.shown) block
-            (steady_state self.old) (steady_state self.new) }
-        ensures size { length self.new.shown ≡ length self.old.shown }
-        ensures count { self.new.reads ≡ self.old.reads }
+        ensures writes { WritesBlock steady_device block from.now self.old self.new result }
     {
         self.store.write(block as usize, from);
         Ok(())
@@ -95,11 +87,7 @@ impl Device for Steady {
 
     fn sync(&mut self) -> Result<(), Failed>
         ensures answers { IsOk result }
-        ensures ok { steady_state self.new ≡ synced (steady_state self.old) }
-        ensures ended { EndedSync (length self.old.shown)
-            (steady_state self.old) (steady_state self.new) }
-        ensures size { length self.new.shown ≡ length self.old.shown }
-        ensures count { self.new.reads ≡ self.old.reads }
+        ensures syncs { Syncs steady_device self.old self.new result }
     {
         self.store.sync();
         Ok(())

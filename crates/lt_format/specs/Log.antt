@@ -45,7 +45,7 @@ abbrev pub read_with : {A : Type 0} → Option (List (List Item)) → ℕ → (L
 read_with None block rest = Err block
 read_with (Some groups) block rest = rest groups
 
--- these groups and those of n slots of a log area from slot i on, or the first damaged block
+-- the groups read so far and those of n slots of a log area from slot i on, or the first damaged block
 unfoldable pub log_from : Geometry → Image → ℕ → ℕ → ℕ → ℕ → List (List Item) → Result (List (List Item)) ℕ
 log_from g image b writes i zero groups = Ok groups
 log_from g image b writes i (suc n) groups =

@@ -2,7 +2,7 @@
 -- An area is read as a function from offsets to bytes, since its fields run across blocks and most of its 305
 -- blocks are not looked at.
 -- The manifest that an image names, and what a commit makes of it.
-use Rattle.std.specs.Prelude.{ℕ, zero, suc, ◌+◌, ◌-◌, ◌*◌, ◌/◌, ◌%◌, ◌^◌, ◌<◌, Bool, true, not, ◌&&◌, List, [], ◌∷◌}
+use Rattle.std.specs.Prelude.{◌≡◌, ℕ, zero, suc, ◌+◌, ◌-◌, ◌*◌, ◌/◌, ◌%◌, ◌^◌, ◌<◌, Bool, true, not, ◌&&◌, List, [], ◌∷◌}
 use Rattle.std.specs.Prelude.{◌++◌, length, map, Option, Some, None, Result, Ok, Err, nat_le, nat_lt, ◌==◌}
 use Rattle.std.specs.Prelude.{if◌then◌else◌, slice_index, slice_range, IsTrue, ◌≤◌}
 use Rattle.std.specs.Int.{Width, w8, w16, w32, w64, byte_len, from_be_bytes}
@@ -107,7 +107,7 @@ id_of e = e.0
 abbrev pub extents_of : NodeId × Node → List ℕ
 extents_of e = node_extents e.1
 
--- so many nodes, one after another
+-- a trie read as so many nodes, one after another, or the place of the first field that does not stand
 unfoldable pub nodes_read : (ℕ → ℕ) → ℕ → ℕ → ℕ → ℕ → Option NodeId → List ℕ → ℕ → Result (Trie × ℕ) ℕ
 nodes_read bytes limit levels extents zero last_id before at = Ok ([], at)
 nodes_read bytes limit levels extents (suc n) last_id before at = do
@@ -228,3 +228,16 @@ may_commit levels m change header =
 -- the manifest after a commit
 abbrev pub after_commit : Manifest → Change → Header → Manifest
 after_commit m change header = record { header = header; trie = after_change m.trie change }
+
+-- the manifest of a fresh store, in area 0
+abbrev pub fresh : Geometry → ℕ → Named
+fresh g extents = record {
+  geometry = g;
+  area = 0;
+  manifest =
+      record { header = record { log_area = 0; extents = extents; writes = 0 }; trie = [] };
+}
+
+-- the image has this geometry, and names this manifest in the area that is current
+pub record Names (named : Named) (image : Image) : Type 0 where
+  pub read : manifest_of image ≡ Ok named

@@ -7,3 +7,11 @@ pub struct NodeId {
     pub level: u8,
     pub number: u16,
 }
+
+impl NodeId {
+    /// The only node of level 0.
+    pub const ROOT: NodeId = NodeId {
+        level: 0,
+        number: 0,
+    };
+}

@@ -5,7 +5,7 @@ use Rattle.lt_htable.specs.declared.faults.LookFault.TheVariants.{Device, Damage
 use Rattle.lt_htable.specs.declared.faults.ScanFault.{ScanFault}
 use Rattle.lt_htable.specs.declared.faults.ScanFault.TheVariants as scans
 
--- the same fault
+-- a fault of a look-up is this fault of a scan
 abbrev pub IsSameFault : LookFault → ScanFault → Type 0
 IsSameFault Device fault = fault ≡ scans.Device
 IsSameFault (Damaged block) fault = fault ≡ scans.Damaged block

@@ -44,7 +44,7 @@ pub record IsLookedUp (shown : Option Image) (first : ℕ) (key : List ℕ) (ans
   pub target_read : (column : ℕ) → look_on home key ≡ Some (moved column) → IsRead shown (first + column) target
   pub is : answer ≡ at_home first (home_column key) (look_on home key) (look_on target key)
 
--- the same of an answer with the item borrowed; a device that failed leaves none
+-- a look-up answered so, with the item borrowed; of a device that failed nothing is said
 abbrev pub AnswersLook : Option Image → ℕ → List ℕ → Result (Option ItemView) LookFault → Type 0
 AnswersLook shown first key (Ok found) = IsLookedUp shown first key (Ok (option_map item_of found))
 AnswersLook shown first key (Err Device) = Unit {0}

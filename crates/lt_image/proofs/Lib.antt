@@ -14,7 +14,6 @@ pub mod PlacedLaws
 pub mod KeptLaws
 pub mod LocalLaws
 pub mod CountLaws
-pub mod RootLaws
 pub mod PrefixLaws
 pub mod DealtLaws
 pub mod MoveLaws

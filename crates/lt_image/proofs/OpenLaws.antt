@@ -2,7 +2,8 @@
 use Rattle.std.proofs.Common.{◌≡◌, ℕ, zero, suc, ◌+◌, ◌^◌, ◌≤◌, refl, sym, ap, subst, ◌∙◌, List, [], ◌∷◌, ◌++◌, length, drop, Bool, true, false, ◌&&◌, cond, Option, Some, None, Result, Ok, arith}
 use Rattle.std.specs.Prelude.{IsTrue, nat_le, nat_lt, slice_range}
 use Rattle.std.specs.FinMap.{is_sorted}
-use Rattle.std.proofs.lemmas.Bool.{and_parts, leb-true}
+use Rattle.std.proofs.lemmas.Bool.{and_parts, leb-true, ne_eqb}
+use Rattle.std.proofs.lemmas.List.{nil_from_length}
 use Rattle.std.proofs.lemmas.List.Concat.{flat_map-append}
 use Rattle.lt_terms.specs.Bytes.{Image, block_at, u16_at, all_zero}
 use Rattle.lt_terms.specs.Items.{Item, total_cost, items_of}
@@ -10,11 +11,11 @@ use Rattle.lt_tables.proofs.ValidLaws.{AllValid, AllValid-append, items_of-valid
 use Rattle.lt_format.specs.declared.geometry.Geometry.{Geometry}
 use Rattle.lt_format.specs.Layout.{is_geometry, is_open, log_gate, log_content, first_open, closed_from}
 use Rattle.lt_format.specs.Log.{group_room, log_room, group_on, items_in, log_fits, with_group, read_with, log_from, log_groups}
-use Rattle.lt_format.specs.Trie.{root, node_cmp, node_at, IsTrie}
+use Rattle.lt_format.specs.Trie.{IsTrie, Trie, is_last_level, node_at, node_cmp, root}
 use Rattle.lt_format.specs.Snapshot.{◌>>=◌, Named, manifest_of}
+use Rattle.lt_format.proofs.ShapeLaws.{node_at-shaped, shaped-inner}
 use Rattle.lt_format.proofs.ReadLaws.{bind_ok, ok_same, manifest_of-named}
 use Rattle.lt_image.specs.Versions.{Opened, open_image, log_items}
-use Rattle.lt_image.proofs.RootLaws.{root-bare}
 
 -- an image that opens has a manifest, and a log that this names
 pub record IsOpen (image : Image) (o : Opened) : Type 0 where
@@ -99,6 +100,13 @@ pub record IsWell (o : Opened) : Type 0 where
 
 geometry_levels : (g : Geometry) → is_geometry g ≡ true → nat_le 2 g.levels ≡ true
 geometry_levels g h = (and_parts (nat_le 2 g.levels) (nat_le g.levels 5) (and_parts _ (nat_le 1 g.slots) (and_parts _ (nat_le g.slots 512) h).0).0).0
+
+-- the root has no groups
+root-bare : (levels extents : ℕ) (trie : Trie) → 2 ≤ levels → IsTrie levels extents trie → (node_at trie root).groups ≡ []
+root-bare levels extents trie deep t =
+    let inner : is_last_level levels root ≡ false = ne_eqb (0 + 1) levels (λ e. absurd (omega arith)) in
+    nil_from_length (node_at trie root).groups (shaped-inner levels extents root (node_at trie root) inner (node_at-shaped levels extents trie root t.nodes)).1
+
 
 pub opens-well : (image : Image) (o : Opened) → open_image image ≡ Ok o → IsWell o
 opens-well image o h =

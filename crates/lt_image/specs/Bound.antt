@@ -7,11 +7,10 @@ use Rattle.lt_terms.specs.Bytes.{Image, same_bytes, is_in}
 use Rattle.lt_terms.specs.Items.{Item}
 use Rattle.lt_terms.specs.Hashes.{home_column, key_suffix}
 use Rattle.lt_tables.specs.Bucket.{sends_on}
-use Rattle.lt_tables.specs.Filter.{covers}
 use Rattle.lt_tables.specs.declared.Sends.{Sends}
 use Rattle.lt_format.specs.declared.geometry.Geometry.{Geometry}
 use Rattle.lt_format.specs.Trie.{Trie, is_last_level}
-use Rattle.lt_image.specs.Versions.{Opened, log_items, Stop, stops, extent_in, items_at}
+use Rattle.lt_image.specs.Versions.{Opened, log_items, Stop, stops, extent_in, is_covered, items_at}
 
 -- up to and with the first that passes the test, or all
 abbrev pub up_to_first : {A : Type 0} → (A → Bool) → List A → List A
@@ -25,10 +24,6 @@ holds_key key items = list_any (λ (v : Item). same_bytes v.key key) items
 -- the tables that a get of the key meets: up to the first on its path that holds it
 abbrev pub met : Geometry → Image → Trie → List ℕ → List Stop
 met g image trie key = up_to_first (λ (s : Stop). holds_key key (items_at g image s.extent)) (stops g.levels trie key)
-
--- the table's home filter covers the key
-abbrev pub is_covered : Geometry → Image → List ℕ → Stop → Bool
-is_covered g image key s = covers (extent_in g image s.extent 64) (home_column key) key
 
 -- the table's home bucket sends items of the key's suffix
 abbrev pub is_sent : Geometry → Image → List ℕ → Stop → Bool

@@ -1,6 +1,5 @@
 pub mod After
 pub mod Bound
-pub mod Counts
 pub mod Examples
 pub mod Needs
 pub mod Pressure

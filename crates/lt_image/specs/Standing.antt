@@ -18,10 +18,11 @@ use Rattle.lt_tables.specs.Table.{bucket_in, newest}
 use Rattle.lt_format.specs.declared.geometry.Geometry.{Geometry}
 use Rattle.lt_format.specs.declared.node_id.NodeId.{NodeId}
 use Rattle.lt_format.specs.Layout.{extent_block, area_block, extent_blocks}
-use Rattle.lt_format.specs.Trie.{Node, path, same_node, named}
-use Rattle.lt_image.specs.Versions.{Opened, open_image, number_of, extent_in, items_at, stored_items, map_of}
+use Rattle.lt_format.specs.Trie.{Node, path, same_node, named, table_total}
+use Rattle.lt_image.specs.Versions.{Opened, extent_in, free_extents, items_at, map_of, number_of, open_image}
+use Rattle.lt_image.specs.Versions.{stored_items}
 use Rattle.lt_language.specs.Machine.{State}
-use Rattle.lt_format.specs.Snapshot.{Named}
+use Rattle.lt_format.specs.Snapshot.{Named, manifest_of}
 
 -- one block, where a test gives true
 abbrev pub block_if : Bool → ℕ → List ℕ
@@ -125,3 +126,10 @@ pub record IsPrefix (image : Image) (start : State) (writes : List Item) (k : �
   pub at_least : k ≤ count
   pub at_most : count ≤ length writes
   pub stands : Stands image (after_writes start (take count writes))
+
+-- the image's manifest names this many tables, and this many extents are not named
+pub record HasCounts (image : Image) (tables free : ℕ) : Type 0 where
+  pub named : Named
+  pub names : manifest_of image ≡ Ok named
+  pub tables_are : tables ≡ table_total named.manifest.trie
+  pub free_are : free ≡ free_extents named

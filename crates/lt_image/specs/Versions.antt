@@ -5,9 +5,11 @@ use Rattle.std.specs.Prelude.{reverse, Option, None}
 use Rattle.std.specs.List.{filter, flat_map, list_all, enumerate_from, range_with_len}
 use Rattle.std.specs.Option.{option_or}
 use Rattle.lt_terms.specs.Bytes.{Image}
+use Rattle.lt_terms.specs.Hashes.{home_column}
 use Rattle.lt_terms.specs.Items.{Item, Map, empty_map, after_items}
 use Rattle.lt_format.specs.Snapshot.{Named, manifest_of, ◌>>=◌}
 use Rattle.lt_format.specs.Log.{log_groups, items_in}
+use Rattle.lt_tables.specs.Filter.{covers}
 use Rattle.lt_tables.specs.Table.{blocks_from, table_items, newest_of}
 use Rattle.lt_format.specs.declared.geometry.Geometry.{Geometry}
 use Rattle.lt_format.specs.declared.node_id.NodeId.{NodeId}
@@ -92,10 +94,6 @@ abbrev pub stops : ℕ → Trie → List ℕ → List Stop
 stops levels trie key =
     flat_map (λ level. stops_of (path key level) (node_at trie (path key level))) (range_with_len 0 levels)
 
--- the trie has no node but the root
-abbrev pub has_only_root : Trie → Bool
-has_only_root trie = list_all (λ (e : NodeId × Node). same_node e.0 root) trie
-
 -- what the first element gives that gives something
 abbrev pub first_some : {A B : Type 0} → (A → Option B) → List A → Option B
 first_some f [] = None
@@ -110,3 +108,7 @@ abbrev pub found : Opened → Image → List ℕ → Option Item
 found o image key =
     option_or (newest_of key (log_items o))
     (at_stops (items_at o.named.geometry image) o.named.geometry.levels o.named.manifest.trie key)
+
+-- the table's home filter covers the key
+abbrev pub is_covered : Geometry → Image → List ℕ → Stop → Bool
+is_covered g image key s = covers (extent_in g image s.extent 64) (home_column key) key

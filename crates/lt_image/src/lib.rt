@@ -11,7 +11,6 @@ mod moving;
 mod opening;
 mod prefixes;
 mod pressing;
-mod rooted;
 
 pub use ending::{digits_are_small, digits_decide, moves_lower_work};
 pub use examples::{
@@ -31,4 +30,3 @@ pub use pressing::{
     full_images_have_writes, moves_take_what_they_need, pressure_is_local,
     rewritten_piles_have_no_slack,
 };
-pub use rooted::{flushes_reach_the_root, roots_stand_alone};

@@ -1,3 +1,5 @@
+pub mod Calls
+pub mod Laws
 pub mod Memory
 pub mod Output
 pub mod Pieces

@@ -1,7 +1,7 @@
-ghost use Rattle.std.specs.Prelude.{◌≡◌, ℕ, ◌<◌, ◌≤◌, List, [], ◌++◌, IfOk, OnErr, IsErr, IsTrue, ◌↔◌, take, length};
-ghost use Rattle.lt_terms.specs.Causes.{HasCause, next_count};
-ghost use Rattle.lt_io.specs.Streams.{Gains};
-ghost use Rattle.lt_io.specs.Memory.{refuses, taken_of};
+ghost use Rattle.std.specs.Prelude.{◌≡◌, ℕ, ◌≤◌, List, IfOk, OnErr, IsErr, IsTrue, ◌↔◌, take, length};
+ghost use Rattle.lt_terms.specs.Causes.{next_count};
+ghost use Rattle.lt_io.specs.Calls.{WritesPart};
+ghost use Rattle.lt_io.specs.Memory.{after_failed_write, after_write, fresh_sink, memory_sink, refuses, taken_of};
 
 use super::counts::{is_listed, risen};
 use super::sink::Sink;
@@ -42,14 +42,7 @@ impl MemSink {
         failing: Vec<u64>,
     ) -> Result<MemSink, NoMemory>
         requires { 1 ≤ step }
-        ensures { IfOk result (λ sink. sink ≡ record {
-          taken_bytes = [];
-          room_limit = room;
-          step_limit = step;
-          failing_calls = failing.items;
-          next_call = 0;
-          fault_count = 0;
-        }) }
+        ensures { IfOk result (λ sink. sink ≡ fresh_sink room step failing.items) }
     {
         let taken = Vec::with_capacity(alloc, room)?;
         Ok(MemSink {
@@ -85,25 +78,13 @@ impl Sink for MemSink {
     ghost faults = { λ sink. sink.fault_count };
 
     fn write(&mut self, bytes: &[u8]) -> Result<usize, Failed>
-        ensures fits { IfOk result (λ n. n ≤ length bytes.now) }
-        ensures progress { IfOk result (λ n. 0 < length bytes.now → 0 < n) }
-        ensures taken { IfOk result (λ n. Gains (λ b. b ≡ self.old.taken_bytes) (λ b. b ≡ self.new.taken_bytes)
-            (take n bytes.now)) }
-
-        ensures cause { HasCause self.old.fault_count self.new.fault_count result }
-        ensures err { OnErr result (Gains (λ b. b ≡ self.old.taken_bytes) (λ b. b ≡ self.new.taken_bytes) []) }
+        ensures writes { WritesPart memory_sink bytes.now self.old self.new result }
 
         // It fails where it is told to, and takes as much as it is told to.
         ensures fails { IsErr result ↔ IsTrue (refuses self.old) }
         ensures takes { IfOk result (λ n. n ≡ taken_of self.old (length bytes.now)) }
-        ensures ok_all { IfOk result (λ n. self.new ≡ record self.old {
-          taken_bytes = self.old.taken_bytes ++ take n bytes.now;
-          next_call = next_count self.old.next_call;
-        }) }
-        ensures err_all { OnErr result (self.new ≡ record self.old {
-          next_call = next_count self.old.next_call;
-          fault_count = next_count self.old.fault_count;
-        }) }
+        ensures ok_all { IfOk result (λ n. self.new ≡ after_write self.old (take n bytes.now)) }
+        ensures err_all { OnErr result (self.new ≡ after_failed_write self.old) }
     {
         if self.next_fails() {
             self.faults = risen(self.faults);

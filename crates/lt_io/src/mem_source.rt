@@ -1,9 +1,9 @@
-ghost use Rattle.std.specs.Prelude.{◌≡◌, ℕ, ◌<◌, ◌≤◌, List, [], Option, Some, IfOk, OnErr, IsErr, IsOk, IsTrue, ◌↔◌};
-ghost use Rattle.std.specs.Prelude.{take, map};
-ghost use Rattle.lt_terms.specs.Causes.{HasCause, next_count};
+ghost use Rattle.std.specs.Prelude.{◌≡◌, ℕ, List, Option, Some, IfOk, OnErr, IsErr, IsOk, IsTrue, ◌↔◌, map};
+ghost use Rattle.lt_terms.specs.Causes.{next_count};
 ghost use Rattle.lt_terms.specs.Bytes.{is_in};
-ghost use Rattle.lt_io.specs.Streams.{Takes, IsAtEnd, pieces_after};
-ghost use Rattle.lt_io.specs.Memory.{nonempty, bytes_of, HandsOut};
+ghost use Rattle.lt_io.specs.Calls.{ReadsPiece};
+ghost use Rattle.lt_io.specs.Memory.{HandsOut, after_failed_read, after_read, bytes_of, fresh_source, fresh_steady};
+ghost use Rattle.lt_io.specs.Memory.{memory_source, steady_source};
 
 use super::counts::{is_listed, risen};
 use super::pieces::Pieces;
@@ -39,13 +39,7 @@ impl MemSource {
     /// Hands out the pieces, a longer piece in parts of 4,096 bytes, empty pieces never. The reads
     /// with these numbers, from 0 on, fail.
     pub fn new(pieces: Vec<Vec<u8>>, failing: Vec<u64>) -> MemSource
-        ensures { result ≡ record {
-          left_pieces = nonempty (map (λ piece. piece.items) pieces.items);
-          failing_calls = failing.items;
-          next_call = 0;
-          taken_pieces = 0;
-          fault_count = 0;
-        } }
+        ensures { result ≡ fresh_source (map (λ piece. piece.items) pieces.items) failing.items }
     {
         MemSource {
             pieces: Pieces::new(pieces),
@@ -74,29 +68,13 @@ impl Source for MemSource {
     ghost faults = { λ s. s.fault_count };
 
     fn read(&mut self, into: &mut Page) -> Result<usize, Failed>
-        ensures fits { IfOk result (λ n. n ≤ 4096) }
-        ensures bytes { IfOk result (λ n. Takes (Some (bytes_of self.old.left_pieces))
-            (Some (bytes_of self.new.left_pieces)) (take n into.new)) }
-        ensures end { IfOk result (λ n. n ≡ 0 → IsAtEnd (Some (bytes_of self.old.left_pieces))) }
-        ensures only_end { IfOk result (λ n. Some (bytes_of self.old.left_pieces) ≡ Some [] → n ≡ 0) }
-        ensures pieces { IfOk result (λ n. self.new.taken_pieces ≡ pieces_after n self.old.taken_pieces) }
-
-        ensures cause { HasCause self.old.fault_count self.new.fault_count result }
-        ensures err { OnErr result (Some (bytes_of self.new.left_pieces) ≡ Some (bytes_of self.old.left_pieces)) }
-        ensures err_pieces { OnErr result (self.new.taken_pieces ≡ self.old.taken_pieces) }
+        ensures reads { ReadsPiece memory_source self.old self.new into.new result }
 
         // It fails where it is told to, and hands out a piece at a time.
         ensures fails { IsErr result ↔ IsTrue (is_in self.old.next_call self.old.failing_calls) }
         ensures hands_out { IfOk result (λ n. HandsOut n self.old.left_pieces self.new.left_pieces) }
-        ensures ok_all { IfOk result (λ n. self.new ≡ record self.old {
-          left_pieces = self.new.left_pieces;
-          next_call = next_count self.old.next_call;
-          taken_pieces = pieces_after n self.old.taken_pieces;
-        }) }
-        ensures err_all { OnErr result (self.new ≡ record self.old {
-          next_call = next_count self.old.next_call;
-          fault_count = next_count self.old.fault_count;
-        }) }
+        ensures ok_all { IfOk result (λ n. self.new ≡ after_read self.old n self.new.left_pieces) }
+        ensures err_all { OnErr result (self.new ≡ after_failed_read self.old) }
     {
         if self.next_fails() {
             self.faults = risen(self.faults);
@@ -128,10 +106,7 @@ impl Model for SteadySource {
 impl SteadySource {
     /// Hands out the pieces, a longer piece in parts of 4,096 bytes, empty pieces never.
     pub fn new(pieces: Vec<Vec<u8>>) -> SteadySource
-        ensures { result ≡ record {
-          left_pieces = nonempty (map (λ piece. piece.items) pieces.items);
-          taken_pieces = 0;
-        } }
+        ensures { result ≡ fresh_steady (map (λ piece. piece.items) pieces.items) }
     {
         SteadySource {
             pieces: Pieces::new(pieces),
@@ -148,15 +123,7 @@ impl Source for SteadySource {
     ghost faults = { λ _. 0 };
 
     fn read(&mut self, into: &mut Page) -> Result<usize, Failed>
-        ensures fits { IfOk result (λ n. n ≤ 4096) }
-        ensures bytes { IfOk result (λ n. Takes (Some (bytes_of self.old.left_pieces))
-            (Some (bytes_of self.new.left_pieces)) (take n into.new)) }
-        ensures end { IfOk result (λ n. n ≡ 0 → IsAtEnd (Some (bytes_of self.old.left_pieces))) }
-        ensures only_end { IfOk result (λ n. Some (bytes_of self.old.left_pieces) ≡ Some [] → n ≡ 0) }
-        ensures pieces { IfOk result (λ n. self.new.taken_pieces ≡ pieces_after n self.old.taken_pieces) }
-        ensures cause { HasCause 0 0 result }
-        ensures err { OnErr result (Some (bytes_of self.new.left_pieces) ≡ Some (bytes_of self.old.left_pieces)) }
-        ensures err_pieces { OnErr result (self.new.taken_pieces ≡ self.old.taken_pieces) }
+        ensures reads { ReadsPiece steady_source self.old self.new into.new result }
 
         // It never fails, and hands out a piece at a time.
         ensures ok { IsOk result }

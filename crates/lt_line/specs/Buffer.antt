@@ -7,7 +7,7 @@ use Rattle.lt_line.specs.declared.lines.Lines.TheInside.{Inside}
 abbrev pub held_in : Inside → HeldLine
 held_in lines = record { kept = lines.bytes.items; is_ended = lines.is_ended }
 
--- it holds what is kept of a line, and has room for it
+-- the buffer of a line holds at most what is kept of one, and has room for it
 pub record IsBounded (lines : Inside) : Type 0 where
   pub within : vec_len lines.bytes ≤ 3261
   pub room : 3261 ≤ vec_capacity lines.bytes

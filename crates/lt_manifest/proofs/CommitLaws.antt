@@ -9,7 +9,8 @@ use Rattle.lt_device.proofs.Steps.{written_shown, sync_only}
 use Rattle.lt_format.specs.declared.geometry.Geometry.{Geometry}
 use Rattle.lt_format.specs.Layout.{is_geometry, selected, area_block, edit_gate}
 use Rattle.lt_format.specs.Snapshot.{Manifest, IsManifest, Named, InManifest, snapshot_bytes}
-use Rattle.lt_manifest.specs.Promise.{Names, HasNew, HasOldOrNew}
+use Rattle.lt_manifest.specs.Promise.{HasNew, HasOldOrNew}
+use Rattle.lt_format.specs.Snapshot.{Names}
 use Rattle.lt_manifest.specs.Written.{HasArea, HasSelected, InArea, page_of, page_count}
 use Rattle.lt_manifest.proofs.NameLaws.{names-other, names-selector, names-new}
 

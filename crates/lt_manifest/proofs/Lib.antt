@@ -12,5 +12,4 @@ pub mod PlaceLaws
 pub mod ReadingLaws
 pub mod ShapeLaws
 pub mod SpellingLaws
-pub mod TouchLaws
 pub mod WriteLaws

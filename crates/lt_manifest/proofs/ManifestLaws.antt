@@ -19,7 +19,8 @@ use Rattle.lt_format.proofs.KeepLaws.{after_change-trie}
 use Rattle.lt_format.proofs.SnapshotReadLaws.{pages-fit, pages-read}
 use Rattle.lt_node.specs.View.{TrieView}
 use Rattle.lt_device.specs.Moments.{ConfinedTo, MayLeave, Leaves}
-use Rattle.lt_manifest.specs.Promise.{Names, HasNew, HasOldOrNew, IsKept, IsHeld, named_by, fresh}
+use Rattle.lt_manifest.specs.Promise.{HasNew, HasOldOrNew, IsKept, IsHeld, named_by}
+use Rattle.lt_format.specs.Snapshot.{Names, fresh}
 use Rattle.lt_manifest.specs.Written.{HasArea, HasSelected, InArea, page_of, page_count}
 use Rattle.lt_manifest.proofs.CommitLaws.{IsNext, area-stays, area-selected, committed, other_written, selector_written, selects, still_old}
 use Rattle.lt_manifest.proofs.ReadingLaws.{few_extents}

@@ -6,7 +6,7 @@ use Rattle.lt_format.specs.declared.geometry.Geometry.{Geometry}
 use Rattle.lt_format.specs.Layout.{is_geometry, area_block, selected, selector_block, geometry_of}
 use Rattle.lt_format.specs.Snapshot.{Manifest, snapshot_in, IsManifest, pages_of, snapshot_page, Named, geometry_in, manifest_in, manifest_of, roomy}
 use Rattle.lt_format.proofs.SnapshotReadLaws.{pages-read}
-use Rattle.lt_manifest.specs.Promise.{Names}
+use Rattle.lt_format.specs.Snapshot.{Names}
 use Rattle.lt_manifest.specs.Written.{InArea}
 use Rattle.lt_format.proofs.ReadLaws.{bind_ok, ok_same}
 use Rattle.lt_format.proofs.LocalLaws.{snapshot-local}

@@ -1,6 +1,7 @@
 -- What a manifest in memory is, where a damage of it may lie, and what the images of a commit name, at each moment
 -- and at its end.
-use Rattle.std.specs.Prelude.{◌≡◌, ℕ, ◌+◌, ◌<◌, ◌≤◌, ◌^◌, [], IsTrue, ◌⊎◌, Ok}
+use Rattle.lt_format.specs.Snapshot.{Names}
+use Rattle.std.specs.Prelude.{◌≡◌, ℕ, ◌+◌, ◌<◌, ◌≤◌, ◌^◌, [], IsTrue, ◌⊎◌, Ok, Some}
 use Rattle.lt_format.specs.declared.geometry.Geometry.{Geometry}
 use Rattle.lt_format.specs.Layout.{is_geometry, area_block, snapshot_blocks}
 use Rattle.lt_format.specs.declared.header.Header.{Header}
@@ -8,7 +9,8 @@ use Rattle.lt_format.specs.Trie.{Trie, IsTrie}
 use Rattle.lt_format.specs.Snapshot.{IsManifest, Manifest, Named, InManifest, manifest_of}
 use Rattle.lt_node.specs.View.{TrieView}
 use Rattle.lt_terms.specs.Bytes.{Image}
-use Rattle.lt_device.specs.State.{SameOutside}
+use Rattle.lt_device.specs.Moments.{Leaves, MayOnlyLeave}
+use Rattle.lt_device.specs.State.{SameOutside, State}
 
 -- what the fields of a manifest in memory name
 abbrev pub named_by : Geometry → ℕ → Header → Trie → Named
@@ -42,19 +44,6 @@ pub record InSnapshot (block : ℕ) : Type 0 where
   pub first : area_block area ≤ block
   pub last : block < area_block area + snapshot_blocks
 
--- the manifest of a fresh store, in area 0
-abbrev pub fresh : Geometry → ℕ → Named
-fresh g extents = record {
-  geometry = g;
-  area = 0;
-  manifest =
-      record { header = record { log_area = 0; extents = extents; writes = 0 }; trie = [] };
-}
-
--- the image has this geometry, and names this manifest in the area that is current
-pub record Names (named : Named) (image : Image) : Type 0 where
-  pub read : manifest_of image ≡ Ok named
-
 -- the image names the new manifest, and agrees outside the manifest's blocks with what the device showed
 pub record HasNew (named : Named) (shown left : Image) : Type 0 where
   pub names : Names named left
@@ -64,3 +53,13 @@ pub record HasNew (named : Named) (shown left : Image) : Type 0 where
 pub record HasOldOrNew (old : Named) (new : Manifest) (shown left : Image) : Type 0 where
   pub either : Names old left ⊎ ((area : ℕ)
       × HasNew (record { geometry = old.geometry; area = area; manifest = new }) shown left)
+
+-- each image since the old state names the manifest as it was there, or this new one
+abbrev pub AnyMoment : Named → Manifest → State → State → Type 0
+AnyMoment named next old new = (shown : Image) → old.shown ≡ Some shown → MayOnlyLeave (Names named) old
+    → Leaves (HasOldOrNew named next shown) old new
+
+-- each image of the new state names the new manifest, where each of the old state named the old one
+abbrev pub Committed : Named → Named → State → State → Type 0
+Committed was is old new = (shown : Image) → old.shown ≡ Some shown → MayOnlyLeave (Names was) old
+    → MayOnlyLeave (HasNew is shown) new

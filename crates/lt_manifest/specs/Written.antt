@@ -2,8 +2,6 @@
 use Rattle.std.specs.Prelude.{◌≡◌, ◌⊎◌, ℕ, ◌+◌, ◌-◌, ◌*◌, ◌/◌, ◌<◌, ◌≤◌, false, List, [], ◌∷◌, Option, Some, length}
 use Rattle.std.specs.Prelude.{slice_range}
 use Rattle.lt_terms.specs.Bytes.{Image, block_at, block_len, block_of}
-use Rattle.lt_device.specs.declared.device.Device.{Ghosts}
-use Rattle.lt_device.specs.Moments.{ConfinedTo, ShowsSameOutside}
 use Rattle.lt_device.specs.State.{SameOutside}
 use Rattle.lt_format.specs.Layout.{area_block, edit_gate, edit_slots, gate_page, selector_block}
 
@@ -47,8 +45,8 @@ pub record ComesFrom (inside : ℕ → Type 0) (old new : Option Image) : Type 0
   pub each : (image : Image) → new ≡ Some image
       → (before : Image) × (old ≡ Some before) × SameOutside inside before image
 
--- the calls touch none but these blocks: each image since agrees outside them with one that a crash could have left
--- before, and there the device reads as before
-pub record TouchesOnly {D : Type 0} (g : Ghosts D) (inside : ℕ → Type 0) (old new : D) : Type 0 where
-  pub confined : ConfinedTo inside (g.state old) (g.state new)
-  pub others : ShowsSameOutside inside (g.state old).shown (g.state new).shown
+-- the blocks of an area are there, and these bytes fit in it
+pub record FitsArea (area blocks : ℕ) (bytes : List ℕ) : Type 0 where
+  pub area_is : area < 2
+  pub within : 868 ≤ blocks
+  pub room : length bytes ≤ 305 * 4096

@@ -1,14 +1,14 @@
 //! Writing a manifest area and making it the current one.
 
-ghost use Rattle.std.specs.Prelude.{◌≡◌, ℕ, ◌+◌, ◌-◌, ◌*◌, ◌<◌, ◌≤◌, Some, false, [], ◌∷◌, IsErr, OnOk, length};
+ghost use Rattle.std.specs.Prelude.{◌≡◌, ℕ, ◌+◌, ◌*◌, ◌<◌, ◌≤◌, Some, false, [], ◌∷◌, IsErr, OnOk, length};
 ghost use Rattle.std.specs.Option.{ForSome};
 ghost use Rattle.lt_terms.specs.Bytes.{Image, block_at, block_of};
-ghost use Rattle.lt_device.specs.Calls.{OnlyWrites};
+ghost use Rattle.lt_device.specs.Calls.{FillsOnly, OnlyWrites, TouchesOnly};
 ghost use Rattle.lt_device.specs.State.{SameOutside, IsFit};
 ghost use Rattle.lt_device.specs.Moments.{UnsyncedIn, MayOnlyLeave};
 ghost use Rattle.lt_format.specs.Layout.{area_block, edit_gate, edit_slots, gate_page};
-ghost use Rattle.lt_manifest.specs.Written.{AreWritten, ComesFrom, HasArea, InArea, InEdits, TouchesOnly, page_of};
-ghost use Rattle.lt_manifest.specs.Written.{page_count};
+ghost use Rattle.lt_manifest.specs.Written.{AreWritten, ComesFrom, FitsArea, HasArea, InArea, InEdits, page_count};
+ghost use Rattle.lt_manifest.specs.Written.{page_of};
 
 use lt_device::Device;
 use lt_format::Geometry;
@@ -39,9 +39,7 @@ pub fn write_area<D: Device>(
     bytes: &[u8],
     page: &mut Page,
 ) -> Result<(), Failed>
-    requires area { area < 2 }
-    requires within { 868 ≤ D.blocks device.old }
-    requires room { length bytes.now ≤ 305 * 4096 }
+    requires { FitsArea area (D.blocks device.old) bytes.now }
     ensures written { OnOk result (MayOnlyLeave (HasArea area bytes.now) (D.state device.new)) }
 
     // All that was written before is sure.
@@ -63,13 +61,9 @@ pub fn fill_area<D: Device>(
     bytes: &[u8],
     page: &mut Page,
 ) -> Result<(), Failed>
-    requires area { area < 2 }
-    requires within { 868 ≤ D.blocks device.old }
-    requires room { length bytes.now ≤ 305 * 4096 }
+    requires { FitsArea area (D.blocks device.old) bytes.now }
     ensures written { OnOk result (ForSome (D.state device.new).shown (HasArea area bytes.now)) }
-    ensures touches { TouchesOnly D.Device (InArea area) device.old device.new }
-    ensures no_sync { (D.state device.new).past ≡ (D.state device.old).past }
-    ensures calls { OnlyWrites D.Device (IsErr result) device.old device.new }
+    ensures fills { FillsOnly D.Device (InArea area) (IsErr result) device.old device.new }
 {
     write_pages(device, geometry, area, bytes, page)?;
     close_edits(device, geometry, area, page)
@@ -84,14 +78,10 @@ fn write_pages<D: Device>(
     bytes: &[u8],
     page: &mut Page,
 ) -> Result<(), Failed>
-    requires area { area < 2 }
-    requires within { 868 ≤ D.blocks device.old }
-    requires room { length bytes.now ≤ 305 * 4096 }
+    requires { FitsArea area (D.blocks device.old) bytes.now }
     ensures written { OnOk result (AreWritten (λ k. area_block area + k) (page_of bytes.now)
         (page_count bytes.now) (D.state device.new).shown) }
-    ensures touches { TouchesOnly D.Device (InArea area) device.old device.new }
-    ensures no_sync { (D.state device.new).past ≡ (D.state device.old).past }
-    ensures calls { OnlyWrites D.Device (IsErr result) device.old device.new }
+    ensures fills { FillsOnly D.Device (InArea area) (IsErr result) device.old device.new }
 {
     let first = geometry.area(area);
     for block in 0..bytes.len().div_ceil(Page::LEN) {
@@ -124,10 +114,8 @@ fn close_edits<D: Device>(
     requires within { 868 ≤ D.blocks device.old }
     ensures written { OnOk result (AreWritten (edit_gate area) (λ k. gate_page false) edit_slots
         (D.state device.new).shown) }
-    ensures touches { TouchesOnly D.Device (InEdits area) device.old device.new }
     ensures kept { ComesFrom (InEdits area) (D.state device.old).shown (D.state device.new).shown }
-    ensures no_sync { (D.state device.new).past ≡ (D.state device.old).past }
-    ensures calls { OnlyWrites D.Device (IsErr result) device.old device.new }
+    ensures fills { FillsOnly D.Device (InEdits area) (IsErr result) device.old device.new }
 {
     write_gate(page, false);
     for slot in 0..64u8 {

@@ -1,16 +1,17 @@
 //! The manifest in memory: its header and trie, and the area of the device that is current.
 
-ghost use Rattle.std.specs.Prelude.{◌≡◌, ℕ, ◌-◌, ◌^◌, ◌<◌, ◌≤◌, Some, Ok, Err, IfOk, IsErrOf, OnOk, IsTrue};
+ghost use Rattle.std.specs.Prelude.{◌≡◌, ◌-◌, ◌^◌, ◌<◌, ◌≤◌, Ok, Err, IfOk, IsErrOf, OnOk, IsTrue};
 ghost use Rattle.std.specs.Option.{ForSome};
-ghost use Rattle.lt_terms.specs.Bytes.{Image};
-ghost use Rattle.lt_device.specs.Calls.{OnlyReads, OnlyWrites};
-ghost use Rattle.lt_device.specs.Moments.{Leaves, ConfinedTo, UnsyncedIn, ShowsSameOutside, MayOnlyLeave};
+ghost use Rattle.lt_device.specs.Calls.{FillsOnly, OnlyReads, OnlyWrites, TouchesOnly};
+ghost use Rattle.lt_device.specs.Faults.{FaultBy, FaultIn};
+ghost use Rattle.lt_device.specs.Moments.{ConfinedTo, UnsyncedIn, ShowsSameOutside, MayOnlyLeave};
 ghost use Rattle.lt_format.specs.Layout.{is_geometry, blocks_needed};
 ghost use Rattle.lt_format.specs.Snapshot.{extents_stand, snapshot_bytes, InManifest, manifest_in, may_commit};
 ghost use Rattle.lt_format.specs.Snapshot.{after_commit};
 ghost use Rattle.lt_node.specs.Changing.{change_of};
-ghost use Rattle.lt_manifest.specs.Promise.{Names, HasNew, HasOldOrNew, IsKept, IsOpened, InSnapshot, fresh};
-ghost use Rattle.lt_manifest.specs.Written.{HasSelected, InSelected, TouchesOnly};
+ghost use Rattle.lt_manifest.specs.Promise.{AnyMoment, Committed, InSnapshot, IsKept, IsOpened};
+ghost use Rattle.lt_format.specs.Snapshot.{fresh};
+ghost use Rattle.lt_manifest.specs.Written.{HasSelected, InSelected};
 
 use crate::area::{fill_area, fill_selector, select_area, write_area};
 use crate::snapshot::header::read_front;
@@ -68,12 +69,9 @@ impl Manifest {
             (D.state device.new).shown }
 
         // Nor any block of area 1.
-        ensures touches { TouchesOnly D.Device (InSelected 0) device.old device.new }
-        ensures no_sync { (D.state device.new).past ≡ (D.state device.old).past }
-
-        ensures no_memory { IsErrOf result CommitFault.NoMemory → device.new ≡ device.old }
-        ensures calls { OnlyWrites D.Device (IsErrOf result CommitFault.Device)
+        ensures fills { FillsOnly D.Device (InSelected 0) (IsErrOf result CommitFault.Device)
             device.old device.new }
+        ensures no_memory { IsErrOf result CommitFault.NoMemory → device.new ≡ device.old }
     {
         let header = Header {
             log_area: 0,
@@ -104,9 +102,9 @@ impl Manifest {
         // Whatever the device tells.
         ensures stands { IfOk result (IsOpened geometry.now (D.blocks device.old)) }
 
-        ensures damaged { (b : ℕ) → IsErrOf result (OpenFault.Damaged b)
-            → ForSome (D.state device.old).shown (λ image. manifest_in geometry.now image ≡ Err b) }
-        ensures damaged_block { (b : ℕ) → IsErrOf result (OpenFault.Damaged b) → InSnapshot b }
+        ensures damaged { FaultBy result OpenFault.Damaged (D.state device.old).shown
+            (λ image b. manifest_in geometry.now image ≡ Err b) }
+        ensures damaged_block { FaultIn result OpenFault.Damaged InSnapshot }
         ensures calls { OnlyReads D.Device 306 (IsErrOf result OpenFault.Device)
             device.old device.new }
     {
@@ -175,16 +173,13 @@ impl Manifest {
         ensures area { OnOk result (self.new.area ≡ 1 - self.old.area) }
 
         // Each image since the start names the manifest as it was, or the new one.
-        ensures any_moment { (shown : Image) → (D.state device.old).shown ≡ Some shown
-            → MayOnlyLeave (Names self.old) (D.state device.old)
-            → Leaves (HasOldOrNew self.old
-            (after_commit self.old.manifest (change_of change.now) header.now) shown)
+        ensures any_moment { AnyMoment self.old
+            (after_commit self.old.manifest (change_of change.now) header.now)
             (D.state device.old) (D.state device.new) }
 
         // After Ok only the latter.
-        ensures committed { OnOk result ((shown : Image) → (D.state device.old).shown ≡ Some shown
-            → MayOnlyLeave (Names self.old) (D.state device.old)
-            → MayOnlyLeave (HasNew self.new shown) (D.state device.new)) }
+        ensures committed { OnOk result
+            (Committed self.old self.new (D.state device.old) (D.state device.new)) }
         ensures written { OnOk result (MayOnlyLeave
             (HasSelected self.new.area (snapshot_bytes self.new.manifest)) (D.state device.new)) }
         ensures sure { OnOk result (UnsyncedIn (λ _. ⊥) (D.state device.new)) }

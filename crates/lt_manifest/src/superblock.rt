@@ -1,8 +1,9 @@
 //! Reading the superblock.
 
-ghost use Rattle.std.specs.Prelude.{◌≡◌, ℕ, ◌≤◌, Ok, Err, IfOk, IfSome, IsErrOf, IsTrue};
+ghost use Rattle.std.specs.Prelude.{◌≡◌, ◌≤◌, Ok, Err, IfOk, IfSome, IsErrOf, IsTrue};
 ghost use Rattle.std.specs.Option.{ForSome, ok_or};
 ghost use Rattle.lt_device.specs.Calls.{OnlyReads};
+ghost use Rattle.lt_device.specs.Faults.{FaultBy, FaultIn};
 ghost use Rattle.lt_format.specs.Layout.{is_geometry, geometry_of, blocks_needed};
 ghost use Rattle.lt_format.specs.Snapshot.{geometry_in, roomy};
 
@@ -22,9 +23,9 @@ pub fn read_geometry<D: Device>(alloc: Global, device: &mut D) -> Result<Geometr
     ensures valid { IfOk result (λ geometry. IsTrue (is_geometry geometry)) }
     ensures room { IfOk result (λ geometry. blocks_needed geometry 0 ≤ D.blocks device.old) }
 
-    ensures damaged { (b : ℕ) → IsErrOf result (OpenFault.Damaged b)
-        → ForSome (D.state device.old).shown (λ image. geometry_in image ≡ Err b) }
-    ensures damaged_block { (b : ℕ) → IsErrOf result (OpenFault.Damaged b) → b ≡ 0 }
+    ensures damaged { FaultBy result OpenFault.Damaged (D.state device.old).shown
+        (λ image b. geometry_in image ≡ Err b) }
+    ensures damaged_block { FaultIn result OpenFault.Damaged (λ b. b ≡ 0) }
     ensures calls { OnlyReads D.Device 1 (IsErrOf result OpenFault.Device) device.old device.new }
     ensures none { D.blocks device.old ≡ 0 → D.reads device.new ≡ D.reads device.old }
 {

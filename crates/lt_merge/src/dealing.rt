@@ -58,7 +58,7 @@ fn count(items: &[Item], level: u8, digit: u8) -> usize
 
 /// The digit of an item's key at a level.
 #[tactic(auto, unfolding(lt_item::specs::Parts::parts_of))]
-fn digit_of(item: &Item, level: u8) -> u8
+pub fn digit_of(item: &Item, level: u8) -> u8
     requires { level ≤ 3 }
     ensures digit { result ≡ key_digit item.now.key level }
     ensures small { result < 8 }

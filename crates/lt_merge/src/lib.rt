@@ -6,6 +6,6 @@ mod merging;
 mod places;
 mod puts;
 
-pub use dealing::deal_by;
+pub use dealing::{deal_by, digit_of};
 pub use merging::newest;
-pub use puts::without_deletes;
+pub use puts::{is_put, without_deletes};

@@ -14,7 +14,8 @@ pub fn without_deletes(mut items: Vec<Item>) -> Vec<Item>
     items
 }
 
-fn is_put(item: &Item) -> bool
+/// Whether an item is a put.
+pub fn is_put(item: &Item) -> bool
     ensures { result ≡ is_put item.now }
 {
     match item.view().kind {

@@ -235,10 +235,7 @@ impl Trie {
         ensures { IfOk result (λ entry.
             entry ≡ (root, appended (node_at self.now.nodes root) tables.now)) }
     {
-        let root = NodeId {
-            level: 0,
-            number: 0,
-        };
+        let root = NodeId::ROOT;
         Ok(NodeEntry::of(
             root,
             self.base(root),

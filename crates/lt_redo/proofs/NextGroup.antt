@@ -1,14 +1,11 @@
 -- The open group as the next one of a log.
 use Rattle.std.proofs.Common.{◌≡◌, ℕ, ◌+◌, ◌<◌, List, [], ◌∷◌, ◌++◌, ap, ◌∙◌, refl, length, IsTrue, arith}
-use Rattle.lt_terms.specs.Bytes.{Image}
 use Rattle.lt_terms.specs.Items.{Item}
-use Rattle.lt_device.specs.State.{State}
-use Rattle.lt_device.specs.Moments.{MayLeave, Leaves}
 use Rattle.lt_format.specs.declared.geometry.Geometry.{Geometry}
 use Rattle.lt_format.specs.Log.{group_page, group_on, log_fits, items_in}
 use Rattle.lt_redo.specs.Group.{IsGathered}
-use Rattle.lt_redo.specs.LogState.{LogState, slots_with, groups_with}
-use Rattle.lt_redo.specs.Slots.{HasLog, HasLogOrLonger, HoldsPages, MayFollow}
+use Rattle.lt_redo.specs.LogState.{slots_with, groups_with}
+use Rattle.lt_redo.specs.Slots.{MayFollow}
 use Rattle.lt_redo.proofs.GroupLaws.{group_on-group_page}
 
 -- a group that is gathered and not empty
@@ -36,19 +33,3 @@ slots_with-some slots (item ∷ items) some = refl
 pub groups_with-some : (groups : List (List Item)) (items : List Item) → 0 < length items → groups_with groups items ≡ groups ++ items ∷ []
 groups_with-some groups [] some = absurd (omega arith)
 groups_with-some groups (item ∷ items) some = refl
-
--- what a commit promises of the images, of a log in memory
-abbrev pub AnyMoment : LogState → State → State → Type 0
-AnyMoment s old new = (groups : List (List Item)) → length groups ≡ s.slots → IsTrue (log_fits s.writes (items_in (groups ++ s.pending ∷ [])))
-    → ((left : Image) → MayLeave old left → HasLog s.geometry s.area s.writes groups left) → Leaves (HasLogOrLonger s.geometry s.area s.writes groups s.pending) old new
-
-abbrev pub Committed : LogState → State → State → Type 0
-Committed s old new = (groups : List (List Item)) → length groups ≡ s.slots → IsTrue (log_fits s.writes (items_in (groups ++ s.pending ∷ [])))
-    → ((left : Image) → MayLeave old left → HasLog s.geometry s.area s.writes groups left) → (left : Image) → MayLeave new left → HasLog s.geometry s.area s.writes (groups_with groups s.pending) left
-
--- there is a slot for the open group
-abbrev pub HasSlot : LogState → Type 0
-HasSlot s = 0 < length s.pending → s.slots < s.geometry.slots
-
-abbrev pub Spelled : LogState → State → Type 0
-Spelled s new = 0 < length s.pending → (left : Image) → MayLeave new left → HoldsPages s.geometry s.area s.slots (group_page s.pending) left

@@ -1,4 +1,5 @@
 pub mod Group
 pub mod LogState
+pub mod LogView
 pub mod Opening
 pub mod Slots

@@ -1,19 +1,19 @@
 //! The log in memory: its open group, and its place on the device.
 
-ghost use Rattle.std.specs.Prelude.{◌≡◌, ℕ, ◌+◌, ◌*◌, ◌-◌, ◌<◌, ◌≤◌, ◌≢◌, ◌↔◌, [], ◌∷◌, ◌++◌, List, true, false};
-ghost use Rattle.std.specs.Prelude.{length, IsTrue, Err, IfOk, IsOk, IsErr, IsErrOf, OnOk, OnErr};
+ghost use Rattle.std.specs.Prelude.{◌≡◌, ℕ, ◌+◌, ◌*◌, ◌<◌, ◌≤◌, ◌↔◌, [], List, true, false, length};
+ghost use Rattle.std.specs.Prelude.{IsTrue, IfOk, IsOk, IsErr, IsErrOf, OnOk, OnErr};
 ghost use Rattle.std.specs.List.{list_all};
-ghost use Rattle.std.specs.Option.{ForSome};
-ghost use Rattle.lt_terms.specs.Items as terms;
-ghost use Rattle.lt_terms.specs.Items.{is_valid, item_cost, total_cost};
+ghost use Rattle.lt_terms.specs.Items.{is_valid, total_cost};
 ghost use Rattle.lt_item.specs.Views.{item_of};
 ghost use Rattle.lt_device.specs.Calls.{OnlyReads, OnlyWrites};
-ghost use Rattle.lt_device.specs.Moments.{Leaves, ConfinedTo, UnsyncedIn, MayOnlyLeave};
+ghost use Rattle.lt_device.specs.Faults.{FaultIn};
+ghost use Rattle.lt_device.specs.Moments.{ConfinedTo, UnsyncedIn, MayOnlyLeave};
 ghost use Rattle.lt_format.specs.Layout.{is_geometry, extent_block};
-ghost use Rattle.lt_format.specs.Log.{group_room, group_page, log_fits, log_groups, items_in};
-ghost use Rattle.lt_redo.specs.LogState.{LogState, HasGroups, idle_log, other_area, slots_with, groups_with};
-ghost use Rattle.lt_redo.specs.Opening.{HasItems};
-ghost use Rattle.lt_redo.specs.Slots.{InSlot, InLogArea, HasLog, HasLogOrLonger, HasZeroGates, HoldsPages};
+ghost use Rattle.lt_format.specs.Log.{group_room, log_fits};
+ghost use Rattle.lt_redo.specs.LogState.{AnyMoment, Committed, EmptiesOther, HasNoRoom, HasSlot, HasZeroOther, InNextSlot};
+ghost use Rattle.lt_redo.specs.LogState.{InOther, IsPlace, LogState, Spelled, committed, idle_log, turned, with_pending};
+ghost use Rattle.lt_redo.specs.Opening.{IsReadLog, TellsDamage};
+ghost use Rattle.lt_redo.specs.Slots.{InLogArea};
 
 use crate::clear::close_gates;
 use crate::group::{GROUP_ROOM, finish, gather};
@@ -48,21 +48,15 @@ pub struct Log {
 }
 
 impl Model for Log {
-    ghost use Rattle.lt_redo.specs.LogState.{LogState, IsKept};
-    ghost use Rattle.lt_redo.specs.Group.{items_on};
+    ghost use Rattle.lt_redo.specs.LogState.{LogState};
 
     ghost Value = { LogState };
 
-    ghost view = { λ l. record {
-      geometry = l.geometry;
-      area = l.area;
-      writes = l.writes;
-      slots = l.slots;
-      pending = items_on l.content l.count l.used;
-      cleared = l.cleared;
-    } };
+    ghost use Rattle.lt_redo.specs.LogView.{log_of, IsKept};
 
-    ghost invariant = { λ l. IsKept l.geometry l.area l.slots l.content l.count l.used l.opened l.closed };
+    ghost view = { log_of };
+
+    ghost invariant = { IsKept };
 }
 
 impl Log {
@@ -85,20 +79,15 @@ impl Log {
         requires within { extent_block geometry.now 0 ≤ D.blocks device.old }
         ensures log { IfOk result
             (λ opened. opened.0 ≡ idle_log geometry.now area writes opened.0.slots) }
-        ensures read { IfOk result (λ opened. ForSome (D.state device.old).shown
-            (HasItems geometry.now area writes opened.0.slots opened.1.items)) }
+        ensures read { IfOk result (λ opened. IsReadLog geometry.now area writes
+            opened.0.slots opened.1.items (D.state device.old).shown) }
 
         // Whatever the device tells.
         ensures items { IfOk result (λ opened. IsTrue (list_all is_valid opened.1.items)) }
         ensures fits { IfOk result (λ opened. IsTrue (log_fits writes opened.1.items)) }
-        ensures enough { IfOk result (λ opened. opened.0.slots ≤ length opened.1.items) }
-        ensures within { IfOk result (λ opened. opened.0.slots ≤ geometry.now.slots) }
 
-        ensures damaged { (b : ℕ) → IsErrOf result (OpenFault.Damaged b)
-            → ForSome (D.state device.old).shown
-            (λ image. log_groups geometry.now image area writes ≡ Err b) }
-        ensures damaged_block { (b : ℕ) → IsErrOf result (OpenFault.Damaged b)
-            → InLogArea geometry.now area b }
+        ensures damaged { TellsDamage result geometry.now area writes (D.state device.old).shown }
+        ensures damaged_block { FaultIn result OpenFault.Damaged (InLogArea geometry.now area) }
         ensures calls { OnlyReads D.Device (2 * geometry.now.slots)
             (IsErrOf result OpenFault.Device)
             device.old device.new }
@@ -118,9 +107,7 @@ impl Log {
         slots: u16,
         mut content: Page,
     ) -> Result<Log, NoMemory>
-        requires valid { IsTrue (is_geometry geometry.now) }
-        requires area { area < 2 }
-        requires within { slots ≤ geometry.now.slots }
+        requires { IsPlace geometry.now area slots }
         ensures { IfOk result (λ log. log ≡ idle_log geometry.now area writes slots) }
     {
         content.clear();
@@ -146,10 +133,8 @@ impl Log {
     /// more than 4,092 bytes, and then nothing changes.
     pub fn append(&mut self, item: &ItemView<'_>) -> Result<(), GroupFull>
         requires { IsTrue (is_valid (item_of item.now)) }
-        ensures ok { OnOk result (self.new
-            ≡ record self.old { pending = self.old.pending ++ item_of item.now ∷ [] }) }
-        ensures full { IsErr result
-            ↔ (group_room < total_cost self.old.pending + item_cost (item_of item.now)) }
+        ensures ok { OnOk result (self.new ≡ with_pending self.old (item_of item.now)) }
+        ensures full { IsErr result ↔ HasNoRoom self.old (item_of item.now) }
         ensures err { OnErr result (self.new ≡ self.old) }
     {
         if self.used + cost(item) > GROUP_ROOM {
@@ -185,36 +170,20 @@ impl Log {
     /// After `Failed` the store is opened again.
     pub fn commit<D: Device>(&mut self, device: &mut D) -> Result<(), Failed>
         requires within { extent_block self.old.geometry 0 ≤ D.blocks device.old }
-        requires room { 0 < length self.old.pending → self.old.slots < self.old.geometry.slots }
-        ensures ok { OnOk result (self.new
-            ≡ record self.old {
-              slots = slots_with self.old.slots self.old.pending;
-              pending = [];
-            }) }
+        requires room { HasSlot self.old }
+        ensures ok { OnOk result (self.new ≡ committed self.old) }
         ensures err { OnErr result (self.new ≡ self.old) }
         ensures idle { self.old.pending ≡ [] → (IsOk result × (device.new ≡ device.old)) }
 
-        // Each image since the start has the log as before, or with the whole open group.
-        ensures any_moment { (groups : List (List terms.Item)) → length groups ≡ self.old.slots
-            → IsTrue (log_fits self.old.writes (items_in (groups ++ self.old.pending ∷ [])))
-            → MayOnlyLeave (HasGroups self.old groups) (D.state device.old)
-            → Leaves
-            (HasLogOrLonger self.old.geometry self.old.area self.old.writes groups self.old.pending)
-            (D.state device.old) (D.state device.new) }
-
-        // After Ok only the latter.
-        ensures committed { OnOk result ((groups : List (List terms.Item))
-            → length groups ≡ self.old.slots
-            → IsTrue (log_fits self.old.writes (items_in (groups ++ self.old.pending ∷ [])))
-            → MayOnlyLeave (HasGroups self.old groups) (D.state device.old)
-            → MayOnlyLeave (HasGroups self.old (groups_with groups self.old.pending))
-            (D.state device.new)) }
+        // Each image since the start has the log as before, or with the whole open group; after Ok only
+        // the latter.
+        ensures any_moment { AnyMoment self.old (D.state device.old) (D.state device.new) }
+        ensures committed { OnOk result
+            (Committed self.old (D.state device.old) (D.state device.new)) }
 
         // The slot holds the group in its one spelling, whatever stood on the device before.
-        ensures spelled { OnOk result (0 < length self.old.pending
-            → MayOnlyLeave (HoldsPages self.old.geometry self.old.area self.old.slots
-            (group_page self.old.pending)) (D.state device.new)) }
-        ensures confined { ConfinedTo (InSlot self.old.geometry self.old.area self.old.slots)
+        ensures spelled { OnOk result (Spelled self.old (D.state device.new)) }
+        ensures confined { ConfinedTo (InNextSlot self.old)
             (D.state device.old) (D.state device.new) }
         ensures sure { OnOk result (0 < length self.old.pending
             → UnsyncedIn (λ _. ⊥) (D.state device.new)) }
@@ -244,13 +213,9 @@ impl Log {
         requires { extent_block self.old.geometry 0 ≤ D.blocks device.old }
         ensures ok { OnOk result (self.new ≡ record self.old { cleared = true }) }
         ensures err { OnErr result (self.new ≡ self.old) }
-        ensures zeros { OnOk result (MayOnlyLeave
-            (HasZeroGates self.old.geometry (other_area self.old.area)) (D.state device.new)) }
-        ensures empty { OnOk result ((writes : ℕ)
-            → MayOnlyLeave (HasLog self.old.geometry (other_area self.old.area) writes [])
-            (D.state device.new)) }
-        ensures confined { ConfinedTo (InLogArea self.old.geometry (other_area self.old.area))
-            (D.state device.old) (D.state device.new) }
+        ensures zeros { OnOk result (MayOnlyLeave (HasZeroOther self.old) (D.state device.new)) }
+        ensures empty { OnOk result (EmptiesOther self.old (D.state device.new)) }
+        ensures confined { ConfinedTo (InOther self.old) (D.state device.old) (D.state device.new) }
         ensures sure { OnOk result (UnsyncedIn (λ _. ⊥) (D.state device.new)) }
         ensures calls { OnlyWrites D.Device (IsErr result) device.old device.new }
     {
@@ -264,12 +229,7 @@ impl Log {
     pub fn turn(&mut self, writes: u64)
         requires cleared { self.old.cleared ≡ true }
         requires empty { self.old.pending ≡ [] }
-        ensures { self.new ≡ record self.old {
-          area = other_area self.old.area;
-          writes = writes;
-          slots = 0;
-          cleared = false;
-        } }
+        ensures { self.new ≡ turned self.old writes }
     {
         self.area = 1 - self.area;
         self.writes = writes;

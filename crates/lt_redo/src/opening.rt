@@ -1,14 +1,13 @@
 //! Reading a log area slot by slot.
 
-ghost use Rattle.std.specs.Prelude.{◌≡◌, ℕ, ◌-◌, ◌*◌, ◌<◌, ◌≤◌, Some, None, Err, IfOk, OnOk, IsErr, IsErrOf, IsTrue};
-ghost use Rattle.std.specs.Prelude.{length};
+ghost use Rattle.std.specs.Prelude.{◌≡◌, ◌-◌, ◌*◌, ◌<◌, ◌≤◌, Some, None, IfOk, OnOk, IsErr, IsErrOf};
 ghost use Rattle.std.specs.Option.{ForSome};
-ghost use Rattle.lt_terms.specs.Bytes.{Image, block_at};
+ghost use Rattle.lt_terms.specs.Bytes.{block_at};
 ghost use Rattle.lt_device.specs.Calls.{OnlyReads};
-ghost use Rattle.lt_format.specs.Layout.{is_open, log_gate, log_content, first_open};
-ghost use Rattle.lt_format.specs.Log.{group_on, log_groups};
-ghost use Rattle.lt_redo.specs.Opening.{HasItems, items_with};
-ghost use Rattle.lt_redo.specs.Slots.{InLogArea};
+ghost use Rattle.lt_device.specs.Faults.{FaultBy, FaultIn};
+ghost use Rattle.lt_format.specs.Layout.{is_open, log_gate, log_content};
+ghost use Rattle.lt_redo.specs.Opening.{GoesOn, IsReadLog, TellsDamage, first_open_from, items_with_slot};
+ghost use Rattle.lt_redo.specs.Slots.{InLogArea, LiesWithin};
 
 use crate::replay::Replay;
 use lt_device::Device;
@@ -27,17 +26,12 @@ pub fn replay<D: Device>(
     writes: u64,
     page: &mut Page,
 ) -> Result<(u16, Replay), OpenFault>
-    requires within { log_gate geometry.now area geometry.now.slots ≤ D.blocks device.old }
-    ensures slots { IfOk result (λ read. read.0 ≤ geometry.now.slots) }
+    requires within { LiesWithin geometry.now area (D.blocks device.old) }
     ensures writes { IfOk result (λ read. read.1.writes ≡ writes) }
-    ensures enough { IfOk result (λ read. read.0 ≤ length read.1.items.items) }
-    ensures items { IfOk result (λ read. ForSome (D.state device.old).shown
-        (HasItems geometry.now area writes read.0 read.1.items.items)) }
-    ensures damaged { (b : ℕ) → IsErrOf result (OpenFault.Damaged b)
-        → ForSome (D.state device.old).shown
-        (λ image. log_groups geometry.now image area writes ≡ Err b) }
-    ensures damaged_block { (b : ℕ) → IsErrOf result (OpenFault.Damaged b)
-        → InLogArea geometry.now area b }
+    ensures read { IfOk result (λ read. IsReadLog geometry.now area writes
+        read.0 read.1.items.items (D.state device.old).shown) }
+    ensures damaged { TellsDamage result geometry.now area writes (D.state device.old).shown }
+    ensures damaged_block { FaultIn result OpenFault.Damaged (InLogArea geometry.now area) }
     ensures calls { OnlyReads D.Device (2 * geometry.now.slots) (IsErrOf result OpenFault.Device)
         device.old device.new }
 {
@@ -80,17 +74,13 @@ fn read_content<D: Device>(
     page: &mut Page,
 ) -> Result<Replay, OpenFault>
     requires within { log_content geometry.now area slot < D.blocks device.old }
-    ensures writes { IfOk result (λ more. more.writes ≡ read.writes) }
-    ensures more { IfOk result (λ more. length read.items.items < length more.items.items) }
+    ensures goes_on { IfOk result (GoesOn read) }
     ensures items { IfOk result (λ more. ForSome (D.state device.old).shown (λ image.
-        items_with read.writes read.items.items
-        (group_on (block_at image (log_content geometry.now area slot))) ≡ Some more.items.items)) }
-    ensures damaged { (b : ℕ) → IsErrOf result (OpenFault.Damaged b)
-        → ForSome (D.state device.old).shown (λ image.
-        items_with read.writes read.items.items
-        (group_on (block_at image (log_content geometry.now area slot))) ≡ None) }
-    ensures damaged_block { (b : ℕ) → IsErrOf result (OpenFault.Damaged b)
-        → b ≡ log_content geometry.now area slot }
+        items_with_slot geometry.now area slot read image ≡ Some more.items.items)) }
+    ensures damaged { FaultBy result OpenFault.Damaged (D.state device.old).shown (λ image b.
+        items_with_slot geometry.now area slot read image ≡ None) }
+    ensures damaged_block { FaultIn result OpenFault.Damaged
+        (λ b. b ≡ log_content geometry.now area slot) }
     ensures calls { OnlyReads D.Device 1 (IsErrOf result OpenFault.Device)
         device.old device.new }
 {
@@ -110,15 +100,13 @@ fn check_closed<D: Device>(
     from: u16,
     page: &mut Page,
 ) -> Result<(), OpenFault>
-    requires within { log_gate geometry.now area geometry.now.slots ≤ D.blocks device.old }
+    requires within { LiesWithin geometry.now area (D.blocks device.old) }
     requires from { from ≤ geometry.now.slots }
-    ensures closed { OnOk result (ForSome (D.state device.old).shown (λ image.
-        first_open image (log_gate geometry.now area) from (geometry.now.slots - from) ≡ None)) }
-    ensures damaged { (b : ℕ) → IsErrOf result (OpenFault.Damaged b)
-        → ForSome (D.state device.old).shown (λ image.
-        first_open image (log_gate geometry.now area) from (geometry.now.slots - from) ≡ Some b) }
-    ensures damaged_block { (b : ℕ) → IsErrOf result (OpenFault.Damaged b)
-        → InLogArea geometry.now area b }
+    ensures closed { OnOk result (ForSome (D.state device.old).shown
+        (λ image. first_open_from geometry.now area from image ≡ None)) }
+    ensures damaged { FaultBy result OpenFault.Damaged (D.state device.old).shown
+        (λ image b. first_open_from geometry.now area from image ≡ Some b) }
+    ensures damaged_block { FaultIn result OpenFault.Damaged (InLogArea geometry.now area) }
     ensures calls { OnlyReads D.Device (geometry.now.slots - from) (IsErrOf result OpenFault.Device)
         device.old device.new }
 {

@@ -1,11 +1,11 @@
 //! The items of a log, as its groups are read one after another.
 
-ghost use Rattle.std.specs.Prelude.{◌≡◌, ◌+◌, ◌^◌, ◌<◌, ◌≤◌, ◌++◌, [], length, IfOk, IfSome, IsTrue, OnOk};
+ghost use Rattle.std.specs.Prelude.{◌≡◌, ◌++◌, [], IfOk, IfSome, IsTrue, OnOk};
 ghost use Rattle.std.specs.List.{list_all};
 ghost use Rattle.std.specs.Option.{option_map};
-ghost use Rattle.lt_terms.specs.Items.{is_valid, total_cost};
-ghost use Rattle.lt_format.specs.Log.{group_on, log_room};
-ghost use Rattle.lt_redo.specs.Opening.{items_with};
+ghost use Rattle.lt_terms.specs.Items.{is_valid};
+ghost use Rattle.lt_format.specs.Log.{group_on};
+ghost use Rattle.lt_redo.specs.Group.{AreLogged};
 
 use crate::group::group_on;
 use lt_bucket::{Item, Items};
@@ -21,13 +21,12 @@ pub struct Replay {
     pub writes: u64,
     pub items: Vec<Item>,
     cost: u32,
-    ghost valid: { IsTrue (list_all is_valid items.items) },
-    ghost cost_is: { cost ≡ total_cost items.items },
-    ghost room: { total_cost items.items ≤ log_room },
-    ghost number: { writes + length items.items < 2 ^ 64 },
+    ghost logged: { AreLogged writes items.items cost },
 }
 
 impl Replay {
+    ghost use Rattle.lt_redo.specs.Opening.{GoesOn, items_with};
+
     /// Nothing was read yet.
     pub fn start(alloc: Global, writes: u64) -> Replay
         ensures writes { result.writes ≡ writes }
@@ -43,11 +42,9 @@ impl Replay {
     /// Adds the items of the group that the page spells. `None` exactly where it spells none, or the log
     /// with it would cost more than 204,092 bytes or pass the greatest number of writes.
     pub fn with_group(self, alloc: Global, page: &Page) -> Result<Option<Replay>, NoMemory>
-        ensures writes { IfOk result (λ more. IfSome more (λ replay. replay.writes ≡ self.writes)) }
+        ensures goes_on { IfOk result (λ more. IfSome more (GoesOn self)) }
         ensures items { IfOk result (λ more. option_map (λ replay. replay.items.items) more
             ≡ items_with self.writes self.items.items (group_on page.now)) }
-        ensures more { IfOk result (λ more. IfSome more
-            (λ replay. length self.items.items < length replay.items.items)) }
     {
         let Some((group, cost)) = group_on(page) else {
             return Ok(None);

@@ -23,7 +23,7 @@ use Rattle.lt_htable.specs.declared.faults.LookFault.TheVariants.{Device}
 use Rattle.lt_image.specs.Bound.{distinct_count, groups_met}
 use Rattle.lt_image.specs.Versions.{Stop}
 use Rattle.lt_search.specs.declared.version.Version.{Version}
-use Rattle.lt_search.specs.Asking.{asks_group}
+use Rattle.lt_search.specs.Seen.{asks_group}
 use Rattle.lt_search.specs.Reads.{bucket_reads, path_reads}
 use Rattle.lt_search.specs.Searched.{Searched}
 use Rattle.lt_search.specs.Seen.{IsBucketOf, IsSeen, before_older, is_told, met_along, pile_stops, seen_along, seen_at}

@@ -1,7 +1,7 @@
 -- The filters that are kept while tables are read one after another.
 use Rattle.std.proofs.Common.{◌≡◌, ◌≢◌, ℕ, zero, suc, ◌+◌, ◌-◌, ◌<◌, ◌≤◌, refl, sym, ap, subst, ◌∙◌, List, [], ◌∷◌, ◌++◌, length, get_or, set, take, drop, replicate, Bool, true, false, cond, ◌||◌, Option, Some, None, append-nil, true≢false, arith, ⊎_elim}
 use Rattle.std.specs.Prelude.{◌==◌}
-use Rattle.std.specs.List.{AllByRecursion}
+use Rattle.std.specs.List.{AllByRecursion, flat_map}
 use Rattle.std.proofs.lemmas.Bool.{cases_eq, eq-eqb, ne_eqb}
 use Rattle.std.proofs.lemmas.List.{get_or-set_other, get_or-set_same, length-append, take-append-drop, take_more}
 use Rattle.std.proofs.lemmas.List.Concat.{flat_map-append}
@@ -10,8 +10,11 @@ use Rattle.lt_tables.proofs.FitLaws.{all_weaker}
 use Rattle.lt_tables.proofs.ListLaws.{all_join, all_left, all_right}
 use Rattle.lt_format.specs.declared.geometry.Geometry.{Geometry}
 use Rattle.lt_format.specs.declared.node_id.NodeId.{NodeId}
-use Rattle.lt_format.specs.Trie.{Node, Trie, named, node_extents}
+use Rattle.lt_format.specs.Changes.{after_change, appended, flush}
+use Rattle.lt_format.specs.Trie.{Node, Trie, is_last_level, named, node_at, node_extents, root, with_node}
 use Rattle.lt_image.specs.Versions.{extent_in}
+use Rattle.lt_image.proofs.AfterLaws.{node_at-holds}
+use Rattle.lt_image.proofs.ChangeLaws.{with_node-all}
 use Rattle.lt_search.specs.Kept.{KeepsExactly, KeepsFilter, inner_pile, inner_tables}
 
 none_at : (n x : ℕ) → get_or (replicate {A = Option (List ℕ)} n None) x None ≡ None
@@ -75,6 +78,55 @@ inner-is levels top e same some other = ap (λ (b : Bool). cond b [] e.1.tables)
 
 pub last-is : (levels top : ℕ) (e : NodeId × Node) → top ≡ levels → 2 ≤ levels → e.0.level ≡ top - 1 → inner_pile levels e ≡ []
 last-is levels top e same some is = ap (λ (b : Bool). cond b [] e.1.tables) (eq-eqb (e.0.level + 1) levels (omega arith))
+
+-- ---- all inner tables
+
+pub flat_all : (P : ℕ → Type 0) (f : NodeId × Node → List ℕ) (es : Trie) → AllByRecursion P (flat_map f es) → AllByRecursion (λ e. AllByRecursion P (f e)) es
+flat_all P f [] all = tt
+flat_all P f (e ∷ es) all = (all_left P (f e) (flat_map f es) all, flat_all P f es (all_right P (f e) (flat_map f es) all))
+
+flat_from : (P : ℕ → Type 0) (f : NodeId × Node → List ℕ) (es : Trie) → AllByRecursion (λ e. AllByRecursion P (f e)) es → AllByRecursion P (flat_map f es)
+flat_from P f [] all = tt
+flat_from P f (e ∷ es) all = all_join P (f e) (flat_map f es) all.0 (flat_from P f es all.1)
+
+pile_all : (P : ℕ → Type 0) (b : Bool) (n : Node) → AllByRecursion P n.tables → AllByRecursion P (cond b [] n.tables)
+pile_all P true n all = tt
+pile_all P false n all = all
+
+-- what holds of all named extents holds of the inner tables
+pub inner-named : (P : ℕ → Type 0) (levels : ℕ) (trie : Trie) → AllByRecursion P (named trie) → AllByRecursion P (inner_tables levels trie)
+inner-named P levels [] all = tt
+inner-named P levels (e ∷ trie) all = all_join P (inner_pile levels e) (inner_tables levels trie)
+    (pile_all P (is_last_level levels e.0) e.1 (all_left P e.1.tables e.1.groups (all_left P (node_extents e.1) (named trie) all)))
+    (inner-named P levels trie (all_right P (node_extents e.1) (named trie) all))
+
+pile_few : (b : Bool) (n : Node) → length (cond b [] n.tables) ≤ length n.tables
+pile_few true n = omega arith
+pile_few false n = omega arith
+
+-- there are no more of them than named extents
+pub inner-few : (levels : ℕ) (trie : Trie) → length (inner_tables levels trie) ≤ length (named trie)
+inner-few levels [] = omega arith
+inner-few levels (e ∷ trie) =
+    omega (arith, length-append (inner_pile levels e) (inner_tables levels trie), length-append (node_extents e.1) (named trie), length-append e.1.tables e.1.groups, pile_few (is_last_level levels e.0) e.1, inner-few levels trie)
+
+pile_more : (P : ℕ → Type 0) (b : Bool) (n : Node) (tables : List ℕ) → AllByRecursion P (cond b [] n.tables) → AllByRecursion P tables → AllByRecursion P (cond b [] (n.tables ++ tables))
+pile_more P true n tables old new = tt
+pile_more P false n tables old new = all_join P n.tables tables old new
+
+pub none_kept : (P : ℕ → Type 0) (b : Bool) → AllByRecursion P (cond b [] [])
+none_kept P true = tt
+none_kept P false = tt
+
+-- after a flush they are those of before and its tables, or fewer
+pub inner-flush : (P : ℕ → Type 0) (levels : ℕ) (trie : Trie) (tables : List ℕ) → AllByRecursion P (inner_tables levels trie) → AllByRecursion P tables → AllByRecursion P (inner_tables levels (after_change trie (flush tables)))
+unfolding after_change
+inner-flush P levels trie tables old new =
+    let Q = λ (e : NodeId × Node). AllByRecursion P (inner_pile levels e) in
+    let all = flat_all P (inner_pile levels) trie old in
+    let there = node_at-holds Q root trie (none_kept P (is_last_level levels root)) all in
+    flat_from P (inner_pile levels) (with_node trie root (appended (node_at trie root) tables))
+    (with_node-all Q trie root (appended (node_at trie root) tables) (pile_more P (is_last_level levels root) (node_at trie root) tables there new) all)
 
 -- what holds of all named extents holds of the tables of each entry
 pub entry-tables : (P : ℕ → Type 0) (nodes : Trie) (i : ℕ) (e : NodeId × Node) → AllByRecursion P (named nodes) → i < length nodes → e ≡ get_or nodes i e → AllByRecursion P e.1.tables

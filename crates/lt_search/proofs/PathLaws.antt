@@ -19,7 +19,8 @@ use Rattle.lt_image.specs.Bound.{distinct_count, groups_met}
 use Rattle.lt_image.specs.Versions.{Stop, stops}
 use Rattle.lt_image.proofs.AfterLaws.{node_at-holds}
 use Rattle.lt_search.specs.declared.version.Version.{Version}
-use Rattle.lt_search.specs.Asking.{asks_group, asks_kept, inner_asked, is_asked}
+use Rattle.lt_search.specs.Asking.{asks_kept, inner_asked, is_asked}
+use Rattle.lt_search.specs.Seen.{asks_group}
 use Rattle.lt_search.specs.Kept.{may_hold}
 use Rattle.lt_search.specs.Reads.{bucket_reads, path_reads}
 use Rattle.lt_search.specs.Searched.{Searched}

@@ -1,7 +1,7 @@
 -- A search of a sound image finds the newest version of the key, within the bound of reads.
 use Rattle.std.proofs.Common.{◌≡◌, ℕ, zero, suc, ◌+◌, ◌<◌, refl, sym, ap, subst, ◌∙◌, List, [], ◌∷◌, length, get_or, Bool, true, false, cond, ◌||◌, Option, Some, None, Result, Ok, arith}
 use Rattle.std.specs.Prelude.{IsFalse}
-use Rattle.std.specs.List.{AllByRecursion, filter, flat_map, last_or}
+use Rattle.std.specs.List.{AllByRecursion, filter, last_or}
 use Rattle.std.specs.Option.{is_some, option_map_or, option_or}
 use Rattle.lt_terms.specs.Bytes.{Image, same_bytes}
 use Rattle.lt_terms.specs.Hashes.{home_column}
@@ -10,26 +10,29 @@ use Rattle.lt_device.specs.Reads.{CountsAtMost}
 use Rattle.lt_tables.specs.Filter.{covers}
 use Rattle.lt_tables.specs.Table.{IsPlaced, blocks_from, newest, newest_of}
 use Rattle.lt_tables.proofs.HashLaws.{home_column-small}
-use Rattle.lt_tables.proofs.ListLaws.{all_join, all_left, all_right}
+use Rattle.lt_tables.proofs.ListLaws.{all_join}
 use Rattle.lt_tables.proofs.NewestLaws.{newest_of-newest}
 use Rattle.lt_format.specs.declared.geometry.Geometry.{Geometry}
 use Rattle.lt_format.specs.declared.node_id.NodeId.{NodeId}
 use Rattle.lt_format.specs.Layout.{extent_block}
-use Rattle.lt_format.specs.Trie.{Node, Trie, is_last_level, node_at, path}
+use Rattle.lt_format.specs.Trie.{Trie, is_last_level, node_at, path}
 use Rattle.lt_htable.specs.declared.faults.LookFault.{LookFault}
 use Rattle.lt_htable.proofs.PlacedLaws.{looked_up-placed}
-use Rattle.lt_image.specs.Bound.{groups_met, holds_key, is_covered, met, reads_of, up_to_first}
+use Rattle.lt_image.specs.Bound.{groups_met, holds_key, met, reads_of, up_to_first}
+use Rattle.lt_image.specs.Versions.{is_covered}
 use Rattle.lt_image.specs.Versions.{Opened, open_image, Stop, at_stops, extent_in, first_some, items_at, stops}
 use Rattle.lt_image.specs.Standing.{bad_blocks}
 use Rattle.lt_image.proofs.AfterLaws.{node_at-holds}
 use Rattle.lt_image.proofs.GroupAnswerLaws.{groups-answer}
 use Rattle.lt_image.proofs.PlacedLaws.{named-placed, named-skips}
 use Rattle.lt_search.specs.declared.version.Version.{Version}
-use Rattle.lt_search.specs.Asking.{asks_group, asks_kept, is_asked, is_asked_on}
+use Rattle.lt_search.specs.Asking.{asks_kept, is_asked}
+use Rattle.lt_search.specs.Seen.{asks_group, is_asked_on}
 use Rattle.lt_search.specs.Found.{IsAnswer}
 use Rattle.lt_search.specs.Kept.{IsSoundWith, KeepsFilter, inner_pile, inner_tables, may_hold}
 use Rattle.lt_search.specs.Reads.{path_reads}
 use Rattle.lt_search.specs.Seen.{IsSeen, before_older, is_told, met_along, pile_stops, seen_along, seen_at, seen_in}
+use Rattle.lt_search.proofs.KeepLaws.{all_at, flat_all, none_kept}
 use Rattle.lt_search.proofs.LookLaws.{seen-looked}
 use Rattle.lt_search.proofs.SearchLaws.{same-buckets, same-seen}
 use Rattle.lt_search.proofs.StopLaws.{all_up_to, path-more, stops-all}
@@ -41,7 +44,7 @@ last_some v [] = refl
 last_some v (x ∷ xs) = last_some x xs
 
 -- some version of a key stands among the items exactly where there is a newest one
-held-newest : (key : List ℕ) (items : List Item) → is_some (newest_of key items) ≡ holds_key key items
+pub held-newest : (key : List ℕ) (items : List Item) → is_some (newest_of key items) ≡ holds_key key items
 held-newest key [] = refl
 held-newest key (v ∷ vs) = by_same (same_bytes v.key key) (held-newest key vs)
   where
@@ -105,24 +108,11 @@ module _ (asks : Stop → Bool) (g : Geometry) (image : Image) (key : List ℕ) 
 
 -- ---- the tables on a path
 
-flat_all : (P : ℕ → Type 0) (f : NodeId × Node → List ℕ) (es : Trie) → AllByRecursion P (flat_map f es) → AllByRecursion (λ e. AllByRecursion P (f e)) es
-flat_all P f [] all = tt
-flat_all P f (e ∷ es) all = (all_left P (f e) (flat_map f es) all, flat_all P f es (all_right P (f e) (flat_map f es) all))
-
-none_kept : (P : ℕ → Type 0) (b : Bool) → AllByRecursion P (cond b [] [])
-none_kept P true = tt
-none_kept P false = tt
-
 -- the filters of an inner node's tables are kept
 node-keeps : (P : ℕ → Type 0) (levels : ℕ) (trie : Trie) (id : NodeId) → is_last_level levels id ≡ false → AllByRecursion P (inner_tables levels trie) → AllByRecursion P (node_at trie id).tables
 node-keeps P levels trie id inner all =
     subst (λ (b : Bool). AllByRecursion P (cond b [] (node_at trie id).tables)) inner
     (node_at-holds (λ e. AllByRecursion P (inner_pile levels e)) id trie (none_kept P (is_last_level levels id)) (flat_all P (inner_pile levels) trie all))
-
-all_at : (P : ℕ → Type 0) (xs : List ℕ) (i : ℕ) → AllByRecursion P xs → i < length xs → P (get_or xs i 0)
-all_at P [] i all h = absurd (omega arith)
-all_at P (x ∷ xs) zero all h = all.0
-all_at P (x ∷ xs) (suc i) all h = all_at P xs i all.1 (omega arith)
 
 -- ---- the filters that are kept, on any image
 

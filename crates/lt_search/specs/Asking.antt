@@ -1,17 +1,16 @@
 -- Which filter is asked for a table, and how many tables are asked.
-use Rattle.std.specs.Prelude.{ℕ, ◌+◌, ◌-◌, ◌*◌, ◌/◌, ◌%◌, Bool, true, List, Option, length, count_by, slice_index}
+use Rattle.std.specs.Prelude.{ℕ, ◌+◌, ◌-◌, ◌*◌, ◌%◌, Bool, true, List, Option, length, count_by}
 use Rattle.std.specs.Prelude.{if◌then◌else◌}
 use Rattle.std.specs.List.{range_with_len, sum_by}
 use Rattle.lt_terms.specs.Bytes.{Image}
-use Rattle.lt_terms.specs.Hashes.{home_column}
 use Rattle.lt_tables.specs.Filter.{covers}
 use Rattle.lt_format.specs.declared.geometry.Geometry.{Geometry}
 use Rattle.lt_format.specs.Trie.{Trie, groups_for, is_last_level, node_at, path}
-use Rattle.lt_image.specs.Bound.{is_covered}
-use Rattle.lt_image.specs.Versions.{Stop, extent_in}
+use Rattle.lt_image.specs.Versions.{Stop}
 use Rattle.lt_search.specs.declared.tables.Filters.{Filters}
 use Rattle.lt_search.specs.declared.tables.Filters.TheVariants.{Kept, Column}
 use Rattle.lt_search.specs.Kept.{may_hold}
+use Rattle.lt_search.specs.Seen.{asks_group}
 
 -- the filters answer that the table at this place of its pile, and in this extent, may hold the key
 abbrev pub is_answered : Filters → List ℕ → ℕ → ℕ → Bool
@@ -31,24 +30,12 @@ may_ask (Column page) key x = true
 abbrev pub asks_kept : List (Option (List ℕ)) → List ℕ → Stop → Bool
 asks_kept kept key s = may_hold kept key s.extent
 
--- the 64 bytes of a table cover the key, in the block of the key's column in its group
-abbrev pub asks_group : Geometry → List ℕ → Image → List ℕ → Stop → Bool
-asks_group g groups image key s =
-    covers (extent_in g image (slice_index groups (s.index / 64)) (home_column key)) (s.index % 64) key
-
 -- a search asks a table above the last level where its kept filter covers the key, and one of the last level where
 -- its filter in the group's block does
 abbrev pub is_asked : Geometry → List (Option (List ℕ)) → Image → Trie → List ℕ → Stop → Bool
 is_asked g kept image trie key s =
     if is_last_level g.levels s.node then asks_group g (node_at trie s.node).groups image key s
     else asks_kept kept key s
-
--- on an image as it opens, a table above the last level is asked where its own filter block covers the key, and one
--- of the last level where its filter in the group's block does
-abbrev pub is_asked_on : Geometry → Image → Trie → List ℕ → Stop → Bool
-is_asked_on g image trie key s =
-    if is_last_level g.levels s.node then asks_group g (node_at trie s.node).groups image key s
-    else is_covered g image key s
 
 -- how many tables of so many levels from the root down a search asks at most: those on the key's path whose kept
 -- filter covers the key

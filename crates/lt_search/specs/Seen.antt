@@ -1,21 +1,22 @@
 -- What a search sees of a key on any blocks, sound or not, and where it may find damage.
 use Rattle.std.specs.Prelude.{◌≡◌, ℕ, ◌+◌, ◌<◌, Bool, true, false, List, [], ◌∷◌, map, reverse, Option, None}
-use Rattle.std.specs.Prelude.{Result, Ok, Err, IsTrue, if◌then◌else◌}
+use Rattle.std.specs.Prelude.{Result, Ok, Err, IsTrue, if◌then◌else◌, ◌/◌, ◌%◌, slice_index}
 use Rattle.std.specs.List.{enumerate_from}
 use Rattle.std.specs.Option.{option_and_then}
 use Rattle.lt_terms.specs.Bytes.{Image, block_at, is_in}
 use Rattle.lt_terms.specs.Hashes.{home_column}
 use Rattle.lt_terms.specs.Items.{Item}
 use Rattle.lt_tables.specs.Bucket.{look_on}
+use Rattle.lt_tables.specs.Filter.{covers}
 use Rattle.lt_format.specs.declared.geometry.Geometry.{Geometry}
 use Rattle.lt_format.specs.declared.node_id.NodeId.{NodeId}
 use Rattle.lt_format.specs.Layout.{extent_block}
-use Rattle.lt_format.specs.Trie.{Trie, node_at, path}
+use Rattle.lt_format.specs.Trie.{Trie, is_last_level, node_at, path}
 use Rattle.lt_htable.specs.declared.faults.LookFault.{LookFault}
 use Rattle.lt_htable.specs.declared.faults.LookFault.TheVariants.{Device, Damaged}
 use Rattle.lt_htable.specs.Reading.{at_home, target_of}
 use Rattle.lt_image.specs.Bound.{up_to_first}
-use Rattle.lt_image.specs.Versions.{Stop}
+use Rattle.lt_image.specs.Versions.{Stop, extent_in, is_covered}
 use Rattle.lt_search.specs.declared.version.Version.{Version}
 use Rattle.lt_search.specs.Found.{IsAnswer}
 
@@ -81,3 +82,15 @@ pub record IsBucketOnPath (g : Geometry) (trie : Trie) (key : List ℕ) (block :
   pub level : ℕ
   pub deep : level < g.levels
   pub bucket : IsBucketOf g (node_at trie (path key level)).tables block
+
+-- the 64 bytes of a table cover the key, in the block of the key's column in its group
+abbrev pub asks_group : Geometry → List ℕ → Image → List ℕ → Stop → Bool
+asks_group g groups image key s =
+    covers (extent_in g image (slice_index groups (s.index / 64)) (home_column key)) (s.index % 64) key
+
+-- on an image as it opens, a table above the last level is asked where its own filter block covers the key, and one
+-- of the last level where its filter in the group's block does
+abbrev pub is_asked_on : Geometry → Image → Trie → List ℕ → Stop → Bool
+is_asked_on g image trie key s =
+    if is_last_level g.levels s.node then asks_group g (node_at trie s.node).groups image key s
+    else is_covered g image key s

@@ -11,7 +11,7 @@ ghost use Rattle.lt_format.specs.declared.node_id.NodeId.{NodeId};
 ghost use Rattle.lt_format.specs.Layout.{extent_block};
 ghost use Rattle.lt_format.specs.Trie.{groups_for, is_last_level};
 ghost use Rattle.lt_htable.specs.Reading.{IsNoBucket};
-ghost use Rattle.lt_search.specs.Asking.{asks_group};
+ghost use Rattle.lt_search.specs.Seen.{asks_group};
 ghost use Rattle.lt_search.specs.Found.{KeepsUnless, value_len};
 ghost use Rattle.lt_search.specs.Reads.{path_reads};
 ghost use Rattle.lt_search.specs.Searched.{Searched};

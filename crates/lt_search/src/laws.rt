@@ -6,7 +6,8 @@ ghost use Rattle.lt_terms.specs.Bytes.{Image};
 ghost use Rattle.lt_format.specs.declared.geometry.Geometry.{Geometry};
 ghost use Rattle.lt_format.specs.Trie.{Trie};
 ghost use Rattle.lt_image.specs.Versions.{stops};
-ghost use Rattle.lt_search.specs.Asking.{is_asked, is_asked_on};
+ghost use Rattle.lt_search.specs.Asking.{is_asked};
+ghost use Rattle.lt_search.specs.Seen.{is_asked_on};
 ghost use Rattle.lt_search.specs.Kept.{KeepsFilter, inner_tables};
 ghost use Rattle.lt_search.specs.Seen.{seen_along};
 

@@ -4,10 +4,10 @@ use Rattle.std.specs.Prelude.{IsTrue}
 use Rattle.std.proofs.lemmas.List.{take_all}
 use Rattle.lt_terms.specs.Items.{Item, put_of, delete_of}
 use Rattle.lt_terms.specs.Bytes.{Image}
-use Rattle.lt_device.specs.Moments.{Leaves, MayLeave}
+use Rattle.lt_device.specs.Moments.{MayLeave}
 use Rattle.lt_device.specs.Reads.{CountsAtMost}
 use Rattle.lt_device.specs.State as told
-use Rattle.lt_image.specs.Counts.{HasCounts}
+use Rattle.lt_image.specs.Standing.{HasCounts}
 use Rattle.lt_image.specs.Standing.{after_writes}
 use Rattle.lt_image.proofs.KeptLaws.{no_writes}
 use Rattle.lt_language.specs.declared.Bad.{Bad}
@@ -28,9 +28,8 @@ use Rattle.lt_store.specs.declared.writing.Taken.TheVariants as answer
 use Rattle.lt_store.specs.Acting.{IsStep, accepted_as, command_of, only_asks, reply_of, write_of}
 use Rattle.lt_store.specs.Going.{Goes, Survives}
 use Rattle.lt_store.specs.Open.{IsOpen, StoreView, extents_of, state_of}
-use Rattle.lt_store.specs.Promise.{IsRooted, Rests}
+use Rattle.lt_store.specs.Promise.{AtRest}
 use Rattle.lt_store.proofs.GoLaws.{goes-none, open-rests}
-use Rattle.lt_store.proofs.RootedLaws.{rooted-none}
 use Rattle.lt_serve.specs.Acting.{Answers, Lost, TellsStat}
 use Rattle.lt_serve.specs.Faults.{round_fault_of}
 use Rattle.lt_serve.specs.Outcomes.{HasValue, is_taken, most_text, outcome_text, reply_text}
@@ -183,15 +182,14 @@ tells-some v old new outcomes.Committed page later past stat = tt
 
 answers-reply : (v w : StoreView) (durable : State) (command : Command) (item : Option Item) (outcome : Outcome) (reply : Option Reply) (waiting0 waiting : Waiting) (old new : Moment)
     → IsStep (extents_of v) (state_of v durable) (Some command) reply (after_writes (state_of v durable) (accepted_as outcome item)) → IsTakenAs command item outcome reply → IsOkAs outcome reply
-    → Goes v (accepted_as outcome item) w durable old.state new.state → Leaves IsRooted old.state new.state → (v.log.pending ≡ [] → accepted_as outcome item ≡ [] → new.state ≡ old.state) → TellsSome v old new reply → length (reply_text reply) ≤ waiting0.room → waiting ≡ with_text waiting0 (reply_text reply)
+    → Goes v (accepted_as outcome item) w durable old.state new.state → (v.log.pending ≡ [] → accepted_as outcome item ≡ [] → new.state ≡ old.state) → TellsSome v old new reply → length (reply_text reply) ≤ waiting0.room → waiting ≡ with_text waiting0 (reply_text reply)
     → Answers v durable command (is_taken outcome) waiting0 waiting w old new
-answers-reply v w durable command item outcome None waiting0 waiting old new step taken ok goes rooted quiet stat fits told = absurd step
-answers-reply v w durable command item outcome (Some reply) waiting0 waiting old new step taken ok goes rooted quiet stat fits told = record {
+answers-reply v w durable command item outcome None waiting0 waiting old new step taken ok goes quiet stat fits told = absurd step
+answers-reply v w durable command item outcome (Some reply) waiting0 waiting old new step taken ok goes quiet stat fits told = record {
   reply = reply;
   writes = accepted_as outcome item;
   runs = runs-one (extents_of v) (state_of v durable) command reply (accepted_as outcome item) step taken;
   goes = goes;
-  rooted = rooted;
   quiet = quiet;
   stat = stat;
   taken_is = ok;
@@ -203,18 +201,18 @@ answers-reply v w durable command item outcome (Some reply) waiting0 waiting old
 pub answers-event : (v w : StoreView) (durable : State) (event : EventView) (command : Command) (outcome : Outcome) (page value : List ℕ) (waiting0 waiting : Waiting) (old new : Moment)
     → command_of event ≡ Some command
     → IsStep (extents_of v) (state_of v durable) (command_of event) (reply_of outcome page) (after_writes (state_of v durable) (accepted_as outcome (write_of event)))
-    → Goes v (accepted_as outcome (write_of event)) w durable old.state new.state → Leaves IsRooted old.state new.state
+    → Goes v (accepted_as outcome (write_of event)) w durable old.state new.state
     → (IsTrue (only_asks event) → new.state ≡ old.state) → ((n f : ℕ) → outcome ≡ outcomes.Taken (answer.Full n f) → v.log.pending ≡ [] → new.state ≡ old.state) → IfSome (write_of event) (λ item. outcome ≡ outcomes.Taken answer.Limit → new.state ≡ old.state)
     → old.reads ≤ new.reads → KeepsPast old.state new.state → ((s : Stat) → outcome ≡ outcomes.Stat s → IsStatOf v old s)
     → ((n : ℕ) → outcome ≡ outcomes.Value n → value ≡ take n page) → HasValue outcome value
     → length (outcome_text outcome value) ≤ most_text → 3007 ≤ waiting0.room → waiting ≡ with_text waiting0 (outcome_text outcome value)
     → Answers v durable command (is_taken outcome) waiting0 waiting w old new
-answers-event v w durable event command outcome page value waiting0 waiting old new is step goes rooted asked full limit later past stat front has short room told =
+answers-event v w durable event command outcome page value waiting0 waiting old new is step goes asked full limit later past stat front has short room told =
     let same : outcome_text outcome value ≡ reply_text (reply_of outcome page) = same-text outcome page value front has in
     let len : length (outcome_text outcome value) ≡ length (reply_text (reply_of outcome page)) = ap length same in
     answers-reply v w durable command (write_of event) outcome (reply_of outcome page) waiting0 waiting old new
     (subst (λ (x : Option Command). IsStep (extents_of v) (state_of v durable) x (reply_of outcome page) (after_writes (state_of v durable) (accepted_as outcome (write_of event)))) is step)
-    (taken-event event command outcome page is) (ok-as outcome page) goes rooted (λ idle none. quiet-event event command outcome page (extents_of v) (state_of v durable) (after_writes (state_of v durable) (accepted_as outcome (write_of event))) old.state new.state is step none asked (λ n f same. full n f same idle) limit) (tells-some v old new outcome page later past stat) (omega arith) (told ∙ ap (with_text waiting0) same)
+    (taken-event event command outcome page is) (ok-as outcome page) goes (λ idle none. quiet-event event command outcome page (extents_of v) (state_of v durable) (after_writes (state_of v durable) (accepted_as outcome (write_of event))) old.state new.state is step none asked (λ n f same. full n f same idle) limit) (tells-some v old new outcome page later past stat) (omega arith) (told ∙ ap (with_text waiting0) same)
 
 -- a line was refused
 pub answers-bad : (v : StoreView) (durable : State) (kind : Bad) (waiting0 waiting : Waiting) (s : Moment) → IsOpen v durable s.state
@@ -224,7 +222,6 @@ answers-bad v durable kind waiting0 waiting s opened short room told = record {
   writes = [];
   runs = runs-one (extents_of v) (state_of v durable) (commands.bad kind) (replies.bad kind) [] (refl, no_writes (state_of v durable)) refl;
   goes = goes-none v durable s.state opened;
-  rooted = rooted-none v durable s.state opened;
   quiet = λ idle none. refl;
   stat = record { reads = omega arith; images = tt; past = λ first is. (first, is) };
   taken_is = refl;
@@ -235,15 +232,14 @@ answers-bad v durable kind waiting0 waiting s opened short room told = record {
 -- ---- and one that was not
 
 -- where the store is still up, the device is at rest
-pub lost-event : (v w : StoreView) (durable : State) (fault : WriteFault) (up : Bool) (old new : Moment) → IsOpen v durable old.state → old.reads ≤ new.reads → Survives v [] durable old.state new.state → Leaves IsRooted old.state new.state
+pub lost-event : (v w : StoreView) (durable : State) (fault : WriteFault) (up : Bool) (old new : Moment) → IsOpen v durable old.state → old.reads ≤ new.reads → Survives v [] durable old.state new.state
     → (up ≡ true → Goes v [] w durable old.state new.state) → (up ≡ false → fault ≡ faults.Device) → ((b : ℕ) → fault ≡ faults.Damaged b → ⊥) → Lost v durable (round_fault_of fault) old new
-lost-event v w durable faults.Device up old new opened later survives rooted goes down sound = record { lost = tt; survives = survives; rooted = rooted; rests = λ is. absurd (cc); counts = counts-quiet durable old new opened.rest.image opened.rest.tells rooted later }
-lost-event v w durable (faults.Damaged b) up old new opened later survives rooted goes down sound = absurd (sound b refl)
-lost-event v w durable faults.NoMemory false old new opened later survives rooted goes down sound = let never = down refl in absurd (cc)
-lost-event v w durable faults.NoMemory true old new opened later survives rooted goes down sound = record {
+lost-event v w durable faults.Device up old new opened later survives goes down sound = record { lost = tt; survives = survives; rests = λ is. absurd (cc); counts = counts-quiet durable old new opened.rest.image opened.rest.tells survives later }
+lost-event v w durable (faults.Damaged b) up old new opened later survives goes down sound = absurd (sound b refl)
+lost-event v w durable faults.NoMemory false old new opened later survives goes down sound = let never = down refl in absurd (cc)
+lost-event v w durable faults.NoMemory true old new opened later survives goes down sound = record {
   lost = tt;
   survives = survives;
-  rooted = rooted;
-  rests = λ is. let g = goes refl in (g.sure, subst (λ xs. Rests (after_writes durable (take g.sure xs)) new.state) (append-nil v.log.pending) (open-rests w (after_writes durable (take g.sure (v.log.pending ++ []))) new.state g.opened));
-  counts = counts-quiet durable old new opened.rest.image opened.rest.tells rooted later;
+  rests = λ is. let g = goes refl in (g.sure, subst (λ xs. AtRest (after_writes durable (take g.sure xs)) new.state) (append-nil v.log.pending) (open-rests w (after_writes durable (take g.sure (v.log.pending ++ []))) new.state g.opened));
+  counts = counts-quiet durable old new opened.rest.image opened.rest.tells survives later;
 }

@@ -8,7 +8,7 @@ use Rattle.lt_terms.specs.Items.{Item}
 use Rattle.lt_device.specs.Moments.{InOneOf, LeftSince, Leaves, MayLeave, clock}
 use Rattle.lt_device.specs.State as told
 use Rattle.lt_device.specs.State.{Epoch}
-use Rattle.lt_image.specs.Counts.{HasCounts}
+use Rattle.lt_image.specs.Standing.{HasCounts}
 use Rattle.lt_image.specs.Standing.{IsPrefix, after_writes}
 use Rattle.lt_image.proofs.PrefixLaws.{prefix-fewer, prefix-later, prefix-longer}
 use Rattle.lt_language.specs.declared.Bad.{Bad}

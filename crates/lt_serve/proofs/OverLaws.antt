@@ -17,7 +17,7 @@ use Rattle.lt_language.specs.Replies as replies
 use Rattle.lt_language.specs.Replies.{Reply, text, texts}
 use Rattle.lt_language.proofs.LineLaws.{split_lines-append}
 use Rattle.lt_store.specs.Open.{StoreView, IsOpen}
-use Rattle.lt_store.specs.Promise.{Rests}
+use Rattle.lt_store.specs.Promise.{AtRest}
 use Rattle.lt_store.proofs.GoLaws.{open-rests}
 use Rattle.lt_serve.specs.declared.served.Served.{Served}
 use Rattle.lt_serve.specs.declared.served.Served.TheVariants as served
@@ -38,14 +38,14 @@ pub open-has : (w : StoreView) (s : State) (writes : List Item) (count : ℕ) (n
 open-has w s writes count now opened le left may = prefix-fewer left s writes count (length writes) le (prefix-whole left s writes (opened.rest.each left may))
 
 -- at rest with all writes is at rest with the first so many
-pub rests-whole : (s : State) (writes : List Item) (now : told.State) → Rests (after_writes s writes) now → (sure : ℕ) × Rests (after_writes s (take sure writes)) now
-rests-whole s writes now rests = (length writes, subst (λ (ws : List Item). Rests (after_writes s ws) now) (sym (take-length writes)) rests)
+pub rests-whole : (s : State) (writes : List Item) (now : told.State) → AtRest (after_writes s writes) now → (sure : ℕ) × AtRest (after_writes s (take sure writes)) now
+rests-whole s writes now rests = (length writes, subst (λ (ws : List Item). AtRest (after_writes s ws) now) (sym (take-length writes)) rests)
 
 -- at rest with the first of some writes, behind those before them
-pub rests-later : (s : State) (first rest : List Item) (now : told.State) → (sure : ℕ) × Rests (after_writes (after_writes s first) (take sure rest)) now → (sure : ℕ) × Rests (after_writes s (take sure (first ++ rest))) now
+pub rests-later : (s : State) (first rest : List Item) (now : told.State) → (sure : ℕ) × AtRest (after_writes (after_writes s first) (take sure rest)) now → (sure : ℕ) × AtRest (after_writes s (take sure (first ++ rest))) now
 rests-later s first rest now r =
     let joined : after_writes (after_writes s first) (take r.0 rest) ≡ after_writes s (first ++ take r.0 rest) = writes-joined s first (take r.0 rest) in
-    (length first + r.0, subst (λ (t : State). Rests t now) (joined ∙ ap (after_writes s) (sym (take-append-add first rest r.0))) r.1)
+    (length first + r.0, subst (λ (t : State). AtRest t now) (joined ∙ ap (after_writes s) (sym (take-append-add first rest r.0))) r.1)
 
 -- the text of the first replies stands in front
 texts-split : (n : ℕ) (rs : List Reply) → texts rs ≡ texts (take n rs) ++ texts (drop n rs)
@@ -98,7 +98,7 @@ module _ (e : ℕ) (before : State) (input output kept : List ℕ) (w : StoreVie
       (shows (length (lines_of front)) r.replies [] output [] (lines-answered e before input r.replies r.writes r.runs front behind is) (r.text ∙ sym (append-nil (texts r.replies))))
 
   -- the device is at rest with all writes
-  pub reached-rests : Rests (after_writes before r.writes) now.state
+  pub reached-rests : AtRest (after_writes before r.writes) now.state
   reached-rests = open-rests w (after_writes before r.writes) now.state r.opened
 
   -- between two lines
@@ -117,7 +117,6 @@ module _ (e : ℕ) (before : State) (input output kept : List ℕ) (w : StoreVie
     far = reached-far;
     whole = λ inner still. record { shown = r.replies; hidden = []; order = sym (append-nil r.replies); text = r.text; first = tt };
     since = r.since;
-    rooted = r.rooted;
     at_exit = open-has w before r.writes (acknowledged r.replies (length output)) now.state r.opened reached-sure;
     rests = λ short. rests-whole before r.writes now.state reached-rests;
     rests_all = λ settled. reached-rests;
@@ -141,7 +140,6 @@ module _ (e : ℕ) (before : State) (input output kept : List ℕ) (w : StoreVie
     far = reached-far;
     whole = λ inner. absurd inner;
     since = r.since;
-    rooted = r.rooted;
     at_exit = open-has w before r.writes (acknowledged r.replies (length output)) now.state r.opened reached-sure;
     rests = λ short. rests-whole before r.writes now.state reached-rests;
     rests_all = λ settled. reached-rests;
@@ -170,7 +168,6 @@ module _ (e : ℕ) (before : State) (input output kept : List ℕ) (w : StoreVie
         far = λ front later is long. shows (length (lines_of front)) r.replies last (output ++ added) added (lines-answered e before input r.replies r.writes r.runs front later is) (ap (λ xs. xs ++ added) r.text);
         whole = λ i. absurd (inner i);
         since = r.since;
-        rooted = r.rooted;
         at_exit = open-has w before r.writes (acknowledged (r.replies ++ last) (length (output ++ added))) now.state r.opened
             (let a = acknowledged-append (r.replies ++ last) [] (length (output ++ added)) (omega (arith, ap length whole, length-append (output ++ added) behind)) in
             let b = runs-counts e before (commands input ++ bad End ∷ []) (r.replies ++ last) r.writes runs in

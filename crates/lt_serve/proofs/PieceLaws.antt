@@ -19,9 +19,8 @@ use Rattle.lt_language.specs.Replies.{Reply, texts}
 use Rattle.lt_line.specs.Held.{HeldLine, kept_of}
 use Rattle.lt_line.specs.Waiting.{Waiting, nothing_waits}
 use Rattle.lt_store.specs.Open.{StoreView, IsOpen}
-use Rattle.lt_store.specs.Promise.{IsRooted, Rests}
+use Rattle.lt_store.specs.Promise.{AtRest}
 use Rattle.lt_store.proofs.GoLaws.{open-rests}
-use Rattle.lt_store.proofs.RootedLaws.{rooted-joins}
 use Rattle.lt_serve.specs.declared.faults.RoundFault.{RoundFault}
 use Rattle.lt_serve.specs.declared.faults.RoundFault.TheVariants as faults
 use Rattle.lt_serve.specs.declared.served.Served.{Served}
@@ -58,11 +57,9 @@ pub record PieceStopped (e : ℕ) (durable : State) (bytes : List ℕ) (status :
   pub halt : IsHalt status
   pub whole : IsInnerHalt status → (Rose faults0 faults → ⊥) → behind ≡ []
   pub since : Leaves (λ left. IsPrefix left durable writes 0) old.state new.state
-  -- each image since names the root alone
-  pub rooted : Leaves IsRooted old.state new.state
   pub at_exit : (left : Image) → MayLeave new.state left → IsPrefix left durable writes (ok_count shown)
-  pub rests : status ≡ served.NoMemory → (sure : ℕ) × Rests (after_writes durable (take sure writes)) new.state
-  pub rests_all : IsSettled status → Rests (after_writes durable writes) new.state
+  pub rests : status ≡ served.NoMemory → (sure : ℕ) × AtRest (after_writes durable (take sure writes)) new.state
+  pub rests_all : IsSettled status → AtRest (after_writes durable writes) new.state
   pub quiet : IsSettled status → writes ≡ [] → new.state ≡ old.state
   pub counts : TellsCounts durable (shown ++ hidden) writes old new
 
@@ -90,7 +87,6 @@ piece-untold e s bytes more kept waiting0 waiting unsent w count stands0 stands 
       halt = tt;
       whole = λ inner. absurd inner;
       since = p.since;
-      rooted = p.rooted;
       at_exit = open-has w s p.writes (ok_count p.replies) new.state p.opened (runs-counts e s (commands bytes) p.replies p.writes p.runs);
       rests = λ short. absurd (cc (short));
       rests_all = λ settled. open-rests w (after_writes s p.writes) new.state p.opened;
@@ -162,7 +158,6 @@ piece-stopped e s bytes held fault waiting0 waiting unsent stands0 stands faults
       halt = halts fault p.lost;
       whole = λ inner. t.all;
       since = p.since;
-      rooted = p.rooted;
       at_exit = λ left may. subst (λ (k : ℕ). IsPrefix left s p.writes k) (sym p.unwritten) (p.since.now left may);
       rests = λ short. p.rests (was-short fault short);
       rests_all = λ settled. absurd (not-settled fault settled);
@@ -204,9 +199,8 @@ module _ (e : ℕ) (before : State) (input output kept : List ℕ) (w : StoreVie
     line = p.line ∙ ap kept_of (sym (rest_of-append input piece));
     opened = let joined : after_writes (after_writes before r.writes) p.writes ≡ after_writes before (r.writes ++ p.writes) = writes-joined before r.writes p.writes in subst (λ (t : State). IsOpen x t new.state) joined p.opened;
     since = since-more before r.writes p.writes start.state mid.state new.state r.since p.since;
-    rooted = rooted-joins start.state mid.state new.state p.rooted r.rooted;
     quiet = λ none. p.quiet (no-second r.writes p.writes none) ∙ r.quiet (no-first r.writes p.writes none);
-    counts = counts-more before r.replies p.replies r.writes p.writes start mid new r.rooted p.rooted (runs-oks e before (commands input) r.replies r.writes r.runs) r.counts p.counts;
+    counts = counts-more before r.replies p.replies r.writes p.writes start mid new r.since p.since (runs-oks e before (commands input) r.replies r.writes r.runs) r.counts p.counts;
   }
 
   -- and all of it was told
@@ -250,8 +244,7 @@ module _ (e : ℕ) (before : State) (input output kept : List ℕ) (w : StoreVie
               first = p.first;
             };
         since = since-more before r.writes p.writes start.state mid.state new.state r.since p.since;
-        rooted = rooted-joins start.state mid.state new.state p.rooted r.rooted;
-        counts = counts-more before r.replies (p.shown ++ p.hidden) r.writes p.writes start mid new r.rooted p.rooted (runs-oks e before (commands input) r.replies r.writes r.runs) r.counts p.counts;
+        counts = counts-more before r.replies (p.shown ++ p.hidden) r.writes p.writes start mid new r.since p.since (runs-oks e before (commands input) r.replies r.writes r.runs) r.counts p.counts;
         at_exit = λ left may.
             let n : length (output ++ p.output) ≤ length (texts told) = omega (arith, ap length text_told, length-append (output ++ p.output) p.behind) in
             let a = acknowledged-append told p.hidden (length (output ++ p.output)) n in
@@ -261,7 +254,7 @@ module _ (e : ℕ) (before : State) (input output kept : List ℕ) (w : StoreVie
             prefix-fewer left before (r.writes ++ p.writes) (acknowledged (r.replies ++ (p.shown ++ p.hidden)) (length (output ++ p.output))) (length r.writes + ok_count p.shown) (omega arith)
             (prefix-later left before r.writes p.writes (ok_count p.shown) (p.at_exit left may));
         rests = λ none. rests-later before r.writes p.writes new.state (p.rests none);
-        rests_all = λ settled. let joined : after_writes (after_writes before r.writes) p.writes ≡ after_writes before (r.writes ++ p.writes) = writes-joined before r.writes p.writes in subst (λ (t : State). Rests t new.state) joined (p.rests_all settled);
+        rests_all = λ settled. let joined : after_writes (after_writes before r.writes) p.writes ≡ after_writes before (r.writes ++ p.writes) = writes-joined before r.writes p.writes in subst (λ (t : State). AtRest t new.state) joined (p.rests_all settled);
         quiet = λ settled none. p.quiet settled (no-second r.writes p.writes none) ∙ r.quiet (no-first r.writes p.writes none);
       }
 
@@ -287,7 +280,6 @@ over-earlier e before status input output first faults0 faults start new le o = 
   far = o.far;
   whole = λ inner still. o.whole inner (λ (rose : Rose faults0 faults). still (omega (arith, rose, le)));
   since = o.since;
-  rooted = o.rooted;
   at_exit = o.at_exit;
   rests = o.rests;
   rests_all = o.rests_all;

@@ -17,9 +17,8 @@ use Rattle.lt_line.specs.Waiting.{Waiting, all_settled}
 use Rattle.lt_line.proofs.HeldLaws.{kept_of-append, kept_of-none}
 use Rattle.lt_store.specs.Going.{Goes, Survives}
 use Rattle.lt_store.specs.Open.{IsOpen, StoreView, extents_of, state_of}
-use Rattle.lt_store.specs.Promise.{IsRooted, Rests}
+use Rattle.lt_store.specs.Promise.{AtRest}
 use Rattle.lt_store.proofs.GoLaws.{goes-none, goes-behind, breaks-behind, goes-state}
-use Rattle.lt_store.proofs.RootedLaws.{rooted-joins, rooted-none}
 use Rattle.lt_serve.specs.declared.faults.RoundFault.{RoundFault}
 use Rattle.lt_serve.specs.declared.faults.RoundFault.TheVariants as faults
 use Rattle.lt_serve.specs.Acting.{Answered, Answers, Lost, settled_unless}
@@ -102,7 +101,6 @@ went-none v durable rest kept waiting s opened free line none = record {
   none = λ is. refl;
   some = λ is. absurd (false≢true is);
   goes = goes-none v durable s.state opened;
-  rooted = rooted-none v durable s.state opened;
   quiet = λ idle none. refl;
   counts = λ idle. counts-none durable s s refl (omega arith);
 }
@@ -124,7 +122,6 @@ went-on v durable bytes chunk kept kept' wrote waiting0 waiting w old new went f
   none = went.none;
   some = went.some;
   goes = went.goes;
-  rooted = went.rooted;
   quiet = went.quiet;
   counts = went.counts;
 }
@@ -159,9 +156,6 @@ module _ (v : StoreView) (durable : State) (bytes chunk kept : List ℕ) (wrote0
   unfolding now
   goes-further wrote a = goes-behind v w went.writes durable old.state mid.state went.goes x a.writes new.state a.goes
 
-  rooted-further : (wrote : Bool) → Line wrote → Leaves IsRooted old.state new.state
-  rooted-further wrote a = rooted-joins old.state mid.state new.state a.rooted went.rooted
-
   quiet-further : (wrote : Bool) (a : Line wrote) → v.log.pending ≡ [] → went.writes ++ a.writes ≡ [] → new.state ≡ old.state
   quiet-further wrote a idle none =
       let first : went.writes ≡ [] = no-first went.writes a.writes none in
@@ -174,7 +168,7 @@ module _ (v : StoreView) (durable : State) (bytes chunk kept : List ℕ) (wrote0
       let all : v.log.pending ++ went.writes ≡ went.writes = ap (λ xs. xs ++ went.writes) idle in
       let at_most : g.sure ≤ length went.writes = omega (arith, g.within, ap length all) in
       let behind : length w.log.pending ≡ length went.writes - g.sure = ap length g.pending ∙ length-drop g.sure (v.log.pending ++ went.writes) ∙ ap (λ (xs : List Item). length xs - g.sure) all in
-      counts-line durable (went.shown ++ went.hidden) went.writes a.writes a.reply old mid new went.rooted a.rooted (runs-oks (extents_of v) (state_of v durable) (commands bytes) (went.shown ++ went.hidden) went.writes went.runs) (went.counts idle)
+      counts-line durable (went.shown ++ went.hidden) went.writes a.writes a.reply old mid new went.goes.survives a.goes.survives (runs-oks (extents_of v) (state_of v durable) (commands bytes) (went.shown ++ went.hidden) went.writes went.runs) (went.counts idle)
       w.log.pending a.stat.reads a.stat.images a.stat.past g.opened.rest.image g.opened.rest.tells
       (λ few. record {
         count = g.sure;
@@ -213,7 +207,6 @@ module _ (v : StoreView) (durable : State) (bytes chunk kept : List ℕ) (wrote0
         none = λ is. refl;
         some = λ is. absurd (false≢true is);
         goes = goes-further false a;
-        rooted = rooted-further false a;
         quiet = quiet-further false a;
         counts = λ idle. subst (λ rs. TellsCounts durable rs (went.writes ++ a.writes) old new) shown_are (counts-further false a idle);
       }
@@ -236,7 +229,6 @@ module _ (v : StoreView) (durable : State) (bytes chunk kept : List ℕ) (wrote0
         none = λ no. absurd (false≢true (sym no));
         some = λ yes. some-more went.hidden a.reply;
         goes = goes-further true a;
-        rooted = rooted-further true a;
         quiet = quiet-further true a;
         counts = λ idle. subst (λ rs. TellsCounts durable rs (went.writes ++ a.writes) old new) (append_assoc went.shown went.hidden (a.reply ∷ [])) (counts-further true a idle);
       }
@@ -261,11 +253,11 @@ module _ (v : StoreView) (durable : State) (bytes kept : List ℕ) (wrote : Bool
   runs-durable : Runs (extents_of v) durable (commands bytes) (went.shown ++ went.hidden) went.writes
   runs-durable = subst (λ s. Runs (extents_of v) s (commands bytes) (went.shown ++ went.hidden) went.writes) (ap (after_writes durable) nothing ∙ no_writes durable) went.runs
 
-  rests-first : (n : ℕ) (new : Moment) → Rests (after_writes (after_writes durable (take went.goes.sure (v.log.pending ++ went.writes))) (take n w.log.pending)) new.state → Rests (after_writes durable (take (went.goes.sure + n) went.writes)) new.state
+  rests-first : (n : ℕ) (new : Moment) → AtRest (after_writes (after_writes durable (take went.goes.sure (v.log.pending ++ went.writes))) (take n w.log.pending)) new.state → AtRest (after_writes durable (take (went.goes.sure + n) went.writes)) new.state
   rests-first n new rests =
       let all : List Item = v.log.pending ++ went.writes in
       let first : List Item = take went.goes.sure all in
-      subst (λ s. Rests s new.state)
+      subst (λ s. AtRest s new.state)
       (ap (λ xs. after_writes (after_writes durable first) (take n xs)) went.goes.pending ∙ writes-joined durable first (take n (drop went.goes.sure all))
       ∙ ap (after_writes durable) (sym (take-add went.goes.sure n all)) ∙ ap (λ xs. after_writes durable (take (went.goes.sure + n) xs)) all_are) rests
 
@@ -292,8 +284,7 @@ module _ (v : StoreView) (durable : State) (bytes kept : List ℕ) (wrote : Bool
     unwritten = went.unwritten;
     first = went.first;
     since = subst (λ xs. Leaves (λ left. IsPrefix left durable xs 0) old.state new.state) all_are (breaks-behind v w went.writes durable old.state mid.state went.goes new.state lost.survives);
-    rooted = rooted-joins old.state mid.state new.state lost.rooted went.rooted;
-    counts = counts-still durable _ (went.shown ++ went.hidden) went.writes old mid new went.rooted lost.rooted (went.counts nothing) lost.counts;
+    counts = counts-still durable _ (went.shown ++ went.hidden) went.writes old mid new went.goes.survives lost.survives (went.counts nothing) lost.counts;
     lost = lost.lost;
     rests = λ short. let r = lost.rests short in (went.goes.sure + r.0, rests-first r.0 new r.1);
   }
@@ -327,9 +318,9 @@ module _ (v : StoreView) (durable : State) (bytes kept : List ℕ) (wrote : Bool
       })
 
   -- all writes are durable, and the replies are settled
-  pub round-after : (x : StoreView) (new : Moment) → Goes w [] x (after_writes durable (take went.goes.sure (v.log.pending ++ went.writes))) mid.state new.state → Leaves IsRooted mid.state new.state → (w.log.pending ≡ [] → new.state ≡ mid.state) → mid.reads ≤ new.reads → x.log.pending ≡ []
+  pub round-after : (x : StoreView) (new : Moment) → Goes w [] x (after_writes durable (take went.goes.sure (v.log.pending ++ went.writes))) mid.state new.state → (w.log.pending ≡ [] → new.state ≡ mid.state) → mid.reads ≤ new.reads → x.log.pending ≡ []
       → (first settled : Waiting) → waiting0 ≡ all_settled first → settled ≡ all_settled waiting → Round (extents_of v) durable bytes kept first settled x old new
-  round-after x new commit rooted idle later none first settled begun is =
+  round-after x new commit idle later none first settled begun is =
       let g = goes-behind v w went.writes durable old.state mid.state went.goes x [] new.state commit in
       let given : List Item = v.log.pending ++ (went.writes ++ []) in
       let given_are : given ≡ went.writes = ap (λ xs. v.log.pending ++ xs) (append-nil went.writes) ∙ all_are in
@@ -348,8 +339,7 @@ module _ (v : StoreView) (durable : State) (bytes kept : List ℕ) (wrote : Bool
         told = is ∙ ap (λ t. record { settled_text = t; pending_text = []; room = waiting.room }) told ∙ ap (λ n. record { settled_text = all_text first ++ texts all; pending_text = []; room = n }) room;
         opened = subst (λ xs. IsOpen x (after_writes durable xs) new.state) whole g.opened;
         since = subst (λ xs. Leaves (λ left. IsPrefix left durable xs 0) old.state new.state) given_are g.survives;
-        rooted = rooted-joins old.state mid.state new.state rooted went.rooted;
-        counts = counts-still durable durable all went.writes old mid new went.rooted rooted (went.counts nothing) (counts-quiet durable mid new went.goes.opened.rest.image went.goes.opened.rest.tells rooted later);
+        counts = counts-still durable durable all went.writes old mid new went.goes.survives commit.survives (went.counts nothing) (counts-quiet durable mid new went.goes.opened.rest.image went.goes.opened.rest.tells commit.survives later);
         quiet = λ unwritten. idle (still-idle v w durable went.writes old.state mid.state went.goes nothing unwritten) ∙ went.quiet nothing unwritten;
       }
 
@@ -373,8 +363,8 @@ stopped-order e durable bytes held fault waiting0 settled old new p = elim (case
 ]
 
 -- a commit that failed
-pub lost-commit : (w : StoreView) (durable : State) (old new : Moment) → IsOpen w durable old.state → old.reads ≤ new.reads → Survives w [] durable old.state new.state → Leaves IsRooted old.state new.state → Lost w durable faults.Device old new
-lost-commit w durable old new opened later survives rooted = record { lost = tt; survives = survives; rooted = rooted; rests = λ is. absurd (cc); counts = counts-quiet durable old new opened.rest.image opened.rest.tells rooted later }
+pub lost-commit : (w : StoreView) (durable : State) (old new : Moment) → IsOpen w durable old.state → old.reads ≤ new.reads → Survives w [] durable old.state new.state → Lost w durable faults.Device old new
+lost-commit w durable old new opened later survives = record { lost = tt; survives = survives; rests = λ is. absurd (cc); counts = counts-quiet durable old new opened.rest.image opened.rest.tells survives later }
 
 -- ---- a line
 
@@ -386,7 +376,6 @@ answered-line v w durable command wrote0 wrote taken waiting0 waiting waiting' o
   writes = a.writes;
   runs = a.runs;
   goes = a.goes;
-  rooted = a.rooted;
   quiet = a.quiet;
   stat = a.stat;
   wrote_is = is ∙ ap (λ b. wrote0 || b) a.taken_is;

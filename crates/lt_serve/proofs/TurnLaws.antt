@@ -22,9 +22,8 @@ use Rattle.lt_line.specs.Waiting.{Waiting, all_settled, nothing_waits}
 use Rattle.lt_line.proofs.HeldLaws.{kept_of-none, kept_of-nothing}
 use Rattle.lt_layout.specs.declared.fault.OpenFault.{OpenFault}
 use Rattle.lt_layout.specs.declared.fault.OpenFault.TheVariants as opens
-use Rattle.lt_store.specs.Promise.{IsRooted, StopsOpening, Rests}
+use Rattle.lt_store.specs.Promise.{AtRest, StopsOpening}
 use Rattle.lt_store.specs.Open.{StoreView, IsOpen}
-use Rattle.lt_store.proofs.RootedLaws.{rests-rooted, rooted-none}
 use Rattle.lt_serve.specs.declared.served.Served.{Served}
 use Rattle.lt_serve.specs.declared.served.Served.TheVariants as served
 use Rattle.lt_serve.specs.Promise.{FailsToOpen, IsUnopened, IsSound, Moment, acknowledged, Over, SteppedOver, TurnedOver}
@@ -162,7 +161,6 @@ reached-none e before kept w s none opened = record {
   line = none ∙ sym kept_of-none;
   opened = subst (λ (t : State). IsOpen w t s.state) (sym (no_writes before)) opened;
   since = begins s.state (λ left may. prefix-none left before [] (opened.rest.each left may));
-  rooted = rooted-none w before s.state opened;
   quiet = λ none. refl;
   counts = counts-none before s s refl (omega arith);
 }
@@ -230,12 +228,12 @@ open-sound (opens.Damaged block) sound = absurd (sound block refl)
 open-sound opens.NoMemory sound = tt
 
 -- no line was acted
-over-unopened : (e : ℕ) (before : State) (status : Served) (faults0 faults : ℕ) (old new : Moment) → new.state ≡ old.state → old.reads ≤ new.reads → Rests before old.state → Over e before status [] [] faults0 faults old new
+over-unopened : (e : ℕ) (before : State) (status : Served) (faults0 faults : ℕ) (old new : Moment) → new.state ≡ old.state → old.reads ≤ new.reads → AtRest before old.state → Over e before status [] [] faults0 faults old new
 unfolding acknowledged
 over-unopened e before status faults0 faults old new still later r =
     let same : before ≡ after_writes before [] = sym (no_writes before) in
-    let now : Rests before new.state = subst (λ (s : told.State). Rests before s) (sym still) r in
-    let rests : Rests (after_writes before []) new.state = subst (λ (t : State). Rests t new.state) same now in
+    let now : AtRest before new.state = subst (λ (s : told.State). AtRest before s) (sym still) r in
+    let rests : AtRest (after_writes before []) new.state = subst (λ (t : State). AtRest t new.state) same now in
     let at_once : (P : Image → Type 0) → ((left : Image) → MayLeave old.state left → P left) → Leaves P old.state new.state = λ P holds. subst (λ (s : told.State). Leaves P old.state s) (sym still) (begins old.state holds) in
     record {
       acted = [];
@@ -250,9 +248,8 @@ over-unopened e before status faults0 faults old new still later r =
       paused = λ pause. (refl, refl);
       far = λ front behind is long. absurd (omega (arith, ap length is, length-append front behind));
       whole = λ inner still. record { shown = []; hidden = []; order = refl; text = refl; first = tt };
-      since = at_once (λ left. IsPrefix left before [] 0) (λ left may. prefix-none left before [] (r.rest.each left may));
-      rooted = at_once IsRooted (rests-rooted before old.state r);
-      at_exit = λ left may. prefix-none left before [] (now.rest.each left may);
+      since = at_once (λ left. IsPrefix left before [] 0) (λ left may. prefix-none left before [] (r.each left may));
+      at_exit = λ left may. prefix-none left before [] (now.each left may);
       rests = λ short. (0, rests);
       rests_all = λ settled. rests;
       quiet = λ settled none. still;
@@ -276,7 +273,6 @@ over-before e before status input output faults0 faults first old new same le o 
   far = o.far;
   whole = o.whole;
   since = subst (λ (s : told.State). Leaves (λ left. IsPrefix left before o.writes 0) s new.state) (sym same) o.since;
-  rooted = subst (λ (s : told.State). Leaves IsRooted s new.state) (sym same) o.rooted;
   at_exit = o.at_exit;
   rests = o.rests;
   rests_all = o.rests_all;
@@ -297,7 +293,7 @@ turned-opened e before status left0 left stands0 stands faults0 faults first old
     )
 
 -- nothing was served: the device is as it was
-pub turned-unopened : (e : ℕ) (before : State) (fault : OpenFault) (status : Served) (left : Option (List ℕ)) (stands : List ℕ → Type 0) (faults : ℕ) (old new : Moment) → status ≡ unopened_of fault → new.state ≡ old.state → old.reads ≤ new.reads → Rests before old.state → ((block : ℕ) → fault ≡ opens.Damaged block → ⊥) → IsSound status × TurnedOver e before status [] [] left left stands stands faults faults old new
+pub turned-unopened : (e : ℕ) (before : State) (fault : OpenFault) (status : Served) (left : Option (List ℕ)) (stands : List ℕ → Type 0) (faults : ℕ) (old new : Moment) → status ≡ unopened_of fault → new.state ≡ old.state → old.reads ≤ new.reads → AtRest before old.state → ((block : ℕ) → fault ≡ opens.Damaged block → ⊥) → IsSound status × TurnedOver e before status [] [] left left stands stands faults faults old new
 turned-unopened e before fault status left stands faults old new is same later rests none =
     subst (λ (answer : Served). IsSound answer × TurnedOver e before answer [] [] left left stands stands faults faults old new) (sym is) (
       open-sound fault none,

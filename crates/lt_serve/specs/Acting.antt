@@ -3,9 +3,8 @@ use Rattle.std.specs.Prelude.{◌≡◌, ℕ, ◌≤◌, Bool, true, false, ◌|
 use Rattle.lt_terms.specs.Items.{Item}
 use Rattle.lt_terms.specs.Bytes.{Image}
 use Rattle.lt_device.specs.declared.device.Device.{Ghosts}
-use Rattle.lt_device.specs.Moments.{Leaves, MayLeave}
-use Rattle.lt_image.specs.Counts.{HasCounts}
-use Rattle.lt_image.specs.Standing.{after_writes}
+use Rattle.lt_device.specs.Moments.{MayLeave}
+use Rattle.lt_image.specs.Standing.{HasCounts, after_writes}
 use Rattle.lt_language.specs.declared.Bad.{Bad}
 use Rattle.lt_language.specs.Commands as commands
 use Rattle.lt_language.specs.Commands.{Command, command_of as command_of_line}
@@ -21,7 +20,7 @@ use Rattle.lt_store.specs.declared.acting.EventView.{EventView}
 use Rattle.lt_store.specs.Acting.{MayAct, command_of}
 use Rattle.lt_store.specs.Going.{Goes, Survives}
 use Rattle.lt_store.specs.Open.{IsOpen, StoreView, extents_of, state_of}
-use Rattle.lt_store.specs.Promise.{IsRooted, Rests}
+use Rattle.lt_store.specs.Promise.{AtRest}
 use Rattle.lt_serve.specs.Promise.{KeepsPast, Moment, OnStat, ReadsRise, Runs, TellsCounts, is_ok, moment_of}
 use Rattle.lt_serve.specs.View.{kept_in, store_in}
 use Rattle.lt_serve.specs.declared.session.Session.{Session}
@@ -41,8 +40,6 @@ pub record Answers (v : StoreView) (durable : State) (command : Command) (taken 
   pub writes : List Item
   pub runs : Runs (extents_of v) (state_of v durable) (command ∷ []) (reply ∷ []) writes
   pub goes : Goes v writes w durable old.state new.state
-  -- each image since names the root alone
-  pub rooted : Leaves IsRooted old.state new.state
   -- where nothing was pending and no write was taken, the device is as before
   pub quiet : v.log.pending ≡ [] → writes ≡ [] → new.state ≡ old.state
   -- what it tells, where it is a `STAT`
@@ -56,9 +53,7 @@ pub record Answers (v : StoreView) (durable : State) (command : Command) (taken 
 pub record Lost (v : StoreView) (durable : State) (fault : RoundFault) (old new : Moment) : Type 0 where
   pub lost : IsLost fault
   pub survives : Survives v [] durable old.state new.state
-  -- each image since names the root alone
-  pub rooted : Leaves IsRooted old.state new.state
-  pub rests : fault ≡ faults.NoMemory → (sure : ℕ) × Rests (after_writes durable (take sure v.log.pending)) new.state
+  pub rests : fault ≡ faults.NoMemory → (sure : ℕ) × AtRest (after_writes durable (take sure v.log.pending)) new.state
   -- and the count of reads did not fall
   pub counts : TellsCounts durable [] [] old new
 
@@ -85,8 +80,6 @@ pub record Answered (v : StoreView) (durable : State) (command : Command) (wrote
   pub writes : List Item
   pub runs : Runs (extents_of v) (state_of v durable) (command ∷ []) (reply ∷ []) writes
   pub goes : Goes v writes w durable old.state new.state
-  -- each image since names the root alone
-  pub rooted : Leaves IsRooted old.state new.state
   -- where nothing was pending and no write was taken, the device is as before
   pub quiet : v.log.pending ≡ [] → writes ≡ [] → new.state ≡ old.state
   -- what it tells, where it is a `STAT`

@@ -21,10 +21,10 @@ use Rattle.lt_terms.specs.Causes.{Rose, RoseBy}
 use Rattle.lt_device.specs.Moments.{LeftSince, Leaves, MayLeave, clock}
 use Rattle.lt_device.specs.State as told
 use Rattle.lt_device.specs.State.{Epoch}
-use Rattle.lt_image.specs.Counts.{HasCounts}
+use Rattle.lt_image.specs.Standing.{HasCounts}
 use Rattle.lt_io.specs.Streams.{Gains, Takes, IsAtEnd}
 use Rattle.lt_language.specs.Commands.{lines_of}
-use Rattle.lt_store.specs.Promise.{IsReplyTo, IsRooted, Rests, StopsGet}
+use Rattle.lt_store.specs.Promise.{AtRest, IsReplyTo, StopsGet}
 use Rattle.lt_format.specs.declared.geometry.Geometry.{Geometry}
 use Rattle.lt_format.specs.Snapshot.{Named}
 use Rattle.lt_image.specs.Versions.{Opened, open_image}
@@ -167,14 +167,12 @@ pub record Over (e : ℕ) (before : State) (status : Served) (input output : Lis
   pub whole : IsInnerHalt status → (Rose faults0 faults → ⊥) → ShowsUpToOk replies output
   -- each image since the start has first writes of those that were taken, and none in part
   pub since : Leaves (λ left. IsPrefix left before writes 0) old.state new.state
-  -- and its manifest names no node but the root
-  pub rooted : Leaves IsRooted old.state new.state
   -- each image that a crash may leave at exit has every write whose `OK` and line feed the output has
   pub at_exit : (left : Image) → MayLeave new.state left
       → IsPrefix left before writes (acknowledged replies (length output))
   -- but for a fault of the device it is at rest: with all writes, or where memory was short with the first of them
-  pub rests : status ≡ served.NoMemory → (sure : ℕ) × Rests (after_writes before (take sure writes)) new.state
-  pub rests_all : IsSettled status → Rests (after_writes before writes) new.state
+  pub rests : status ≡ served.NoMemory → (sure : ℕ) × AtRest (after_writes before (take sure writes)) new.state
+  pub rests_all : IsSettled status → AtRest (after_writes before writes) new.state
   -- and as before where no write was taken
   pub quiet : IsSettled status → writes ≡ [] → new.state ≡ old.state
 

@@ -15,7 +15,7 @@ use Rattle.lt_line.specs.Held.{HeldLine, kept_of}
 use Rattle.lt_line.specs.Waiting.{Waiting}
 use Rattle.lt_store.specs.Going.{Goes}
 use Rattle.lt_store.specs.Open.{StoreView, IsOpen, extents_of, state_of}
-use Rattle.lt_store.specs.Promise.{IsRooted, Rests}
+use Rattle.lt_store.specs.Promise.{AtRest}
 use Rattle.lt_serve.specs.declared.faults.RoundFault.{RoundFault}
 use Rattle.lt_serve.specs.declared.faults.RoundFault.TheVariants as faults
 use Rattle.lt_serve.specs.Faults.{IsLost}
@@ -44,8 +44,6 @@ pub record Went (v : StoreView) (durable : State) (bytes kept : List ℕ) (wrote
   pub none : wrote ≡ false → hidden ≡ []
   pub some : wrote ≡ true → hidden ≢ []
   pub goes : Goes v writes w durable old.state new.state
-  -- each image since names the root alone
-  pub rooted : Leaves IsRooted old.state new.state
   -- where nothing was pending and no write was taken, the device is as before
   pub quiet : v.log.pending ≡ [] → writes ≡ [] → new.state ≡ old.state
   -- what the `STAT` replies tell, where nothing was pending
@@ -67,8 +65,6 @@ pub record Round (e : ℕ) (durable : State) (bytes kept : List ℕ) (waiting0 w
   }
   pub opened : IsOpen w (after_writes durable writes) new.state
   pub since : Leaves (λ left. IsPrefix left durable writes 0) old.state new.state
-  -- each image since names the root alone
-  pub rooted : Leaves IsRooted old.state new.state
   -- where no write was taken, the device is as before
   pub quiet : writes ≡ [] → new.state ≡ old.state
   -- what the `STAT` replies tell
@@ -112,11 +108,9 @@ pub record Stopped (e : ℕ) (durable : State) (bytes : List ℕ) (held : HeldLi
   pub first : StartWithOk hidden
   -- each image since holds first writes of these, behind all that was durable
   pub since : Leaves (λ left. IsPrefix left durable writes 0) old.state new.state
-  -- each image since names the root alone
-  pub rooted : Leaves IsRooted old.state new.state
   -- no block is damaged; and where memory was short the device is at rest
   pub lost : IsLost fault
-  pub rests : fault ≡ faults.NoMemory → (sure : ℕ) × Rests (after_writes durable (take sure writes)) new.state
+  pub rests : fault ≡ faults.NoMemory → (sure : ℕ) × AtRest (after_writes durable (take sure writes)) new.state
   -- what the `STAT` replies tell
   pub counts : TellsCounts durable (shown ++ hidden) writes old new
 

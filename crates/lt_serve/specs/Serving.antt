@@ -17,7 +17,6 @@ use Rattle.lt_language.specs.Replies.{Reply, texts}
 use Rattle.lt_line.specs.Held.{kept_of}
 use Rattle.lt_line.specs.Waiting.{Waiting, nothing_waits}
 use Rattle.lt_store.specs.Open.{StoreView, IsOpen, blocks_of, extents_of}
-use Rattle.lt_store.specs.Promise.{IsRooted}
 use Rattle.lt_serve.specs.Promise.{IsSound, Moment, Runs, SteppedOver, TellsCounts, TurnedOver, moment_of}
 
 -- A store of e extents that stood for `before`: all lines of the input were acted, this is the text of their
@@ -31,8 +30,6 @@ pub record Reached (e : ℕ) (before : State) (input output kept : List ℕ) (w 
   pub line : kept ≡ kept_of (rest_of input)
   pub opened : IsOpen w (after_writes before writes) new.state
   pub since : Leaves (λ left. IsPrefix left before writes 0) old.state new.state
-  -- each image since names the root alone
-  pub rooted : Leaves IsRooted old.state new.state
   -- where no write was taken, the device is as before
   pub quiet : writes ≡ [] → new.state ≡ old.state
   -- what the `STAT` replies tell

@@ -4,7 +4,7 @@ ghost use Rattle.std.specs.Option.{ForSome};
 ghost use Rattle.std.specs.Prelude.{◌≡◌, ℕ, ◌+◌, ◌*◌, ◌≤◌, true, [], IfOk, IsErrOf};
 ghost use Rattle.lt_device.specs.Calls.{OnlyReads};
 ghost use Rattle.lt_language.specs.Machine.{State};
-ghost use Rattle.lt_store.specs.Promise.{StopsOpening, Rests};
+ghost use Rattle.lt_store.specs.Promise.{AtRest, StopsOpening};
 ghost use Rattle.lt_store.specs.Open.{IsOpen, blocks_of, extents_of};
 ghost use Rattle.lt_store.specs.Reading.{Reads};
 ghost use Rattle.lt_serve.specs.Ends.{with_end};
@@ -33,13 +33,13 @@ impl Session {
             (Reads (store_in session))) }
 
         // On a device at rest it is open for what the device stands for.
-        ensures opened { IfOk result (λ session. (s : State) (r : Rests s (D.state device.old))
+        ensures opened { IfOk result (λ session. (s : State) (r : AtRest s (D.state device.old))
             → IsOpen (store_in session) s (D.state device.new)
-            × (extents_of (store_in session) ≡ r.rest.named.manifest.header.extents)) }
+            × (extents_of (store_in session) ≡ r.named.manifest.header.extents)) }
 
         ensures damaged { (b : ℕ) → IsErrOf result (OpenFault.Damaged b)
             → StopsOpening (D.state device.old) b }
-        ensures at_rest { (s : State) → Rests s (D.state device.old) → (b : ℕ)
+        ensures at_rest { (s : State) → AtRest s (D.state device.old) → (b : ℕ)
             → IsErrOf result (OpenFault.Damaged b) → ⊥ }
         // At most for the most slots and the most extents that there may be.
         ensures calls { OnlyReads D.Device (307 + 2 * 512 + 65536) (IsErrOf result OpenFault.Device)

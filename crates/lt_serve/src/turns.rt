@@ -5,7 +5,7 @@ ghost use Rattle.std.specs.Prelude.{length, take, IfErr, IfOk, IsErrOf, Ok, OnOk
 ghost use Rattle.lt_terms.specs.Causes.{next_count};
 ghost use Rattle.lt_language.specs.Machine.{State};
 ghost use Rattle.lt_line.specs.Waiting.{nothing_waits};
-ghost use Rattle.lt_store.specs.Promise.{Rests, StopsOpening, seen_on};
+ghost use Rattle.lt_store.specs.Promise.{AtRest, StopsOpening, seen_on};
 ghost use Rattle.lt_store.specs.Open.{IsOpen, blocks_of, extents_of};
 ghost use Rattle.lt_serve.specs.Calls.{StopsGetOf, TurnActs};
 ghost use Rattle.lt_serve.specs.Faults.{IsEnd, IsStepEnd, IsTurnEnd};
@@ -202,8 +202,8 @@ pub fn serve<S: Source, K: Sink, D: Device>(
 ) -> Served
     // On a device at rest: the answers are a map's, nothing that was acknowledged is lost at any moment, and no
     // block is damaged.
-    ensures over { (before : State) (r : Rests before (D.state device.old))
-        → ServesFrom S.Source K.Sink D.Device r.rest.named.manifest.header.extents before result
+    ensures over { (before : State) (r : AtRest before (D.state device.old))
+        → ServesFrom S.Source K.Sink D.Device r.named.manifest.header.extents before result
         source.old source.new sink.old sink.new device.old device.new }
 
     // On any device a damaged block is one at which opening stops, and then nothing was read, written or answered,

@@ -3,7 +3,6 @@ use Rattle.std.proofs.Common.{◌≡◌, ℕ, ◌+◌, ◌*◌, ◌<◌, ◌≤�
 use Rattle.std.specs.Prelude.{◌↔◌, ◌≢◌, IsErrOf}
 use Rattle.lt_terms.specs.Items.{Item, put_of, delete_of}
 use Rattle.lt_device.specs.State as told
-use Rattle.lt_device.specs.Moments.{Leaves}
 use Rattle.lt_language.specs.Commands as commands
 use Rattle.lt_language.specs.Commands.{Command}
 use Rattle.lt_language.specs.Machine.{State, found, most_writes}
@@ -20,27 +19,23 @@ use Rattle.lt_htable.specs.declared.faults.LookFault.TheVariants as looks
 use Rattle.lt_store.specs.Acting.{IsKind, IsStep, TellsSeen, reply_of}
 use Rattle.lt_store.specs.Promise.{RepliesSeen}
 use Rattle.lt_store.specs.Faults.{fault_of_look}
-use Rattle.lt_store.specs.Getting.{AnswersSeen, Finds}
+use Rattle.lt_store.specs.Getting.{AnswersSeen, Finds, KeepsBound}
 use Rattle.lt_tables.specs.Table.{value_of}
 use Rattle.lt_language.specs.Replies as replies
 use Rattle.lt_language.specs.Replies.{Reply}
 use Rattle.lt_store.specs.Going.{Goes}
 use Rattle.lt_store.specs.Open.{StoreView, IsOpen}
-use Rattle.lt_store.specs.Promise.{IsReplyTo, IsRooted, IsWriteReply}
+use Rattle.lt_store.specs.Promise.{IsReplyTo, IsWriteReply}
 use Rattle.lt_store.specs.Taking.{accepted_by}
 use Rattle.lt_device.specs.declared.device.Device.{Ghosts}
-use Rattle.lt_store.specs.Writing.{WhileRooted, Writes}
+use Rattle.lt_store.specs.Writing.{InPlace, Writes}
 use Rattle.lt_store.proofs.GoLaws.{goes-none}
-use Rattle.lt_store.proofs.RootedLaws.{rooted-none}
 use Rattle.lt_image.proofs.KeptLaws.{no_writes}
 
 -- ---- calls that ask
 
 pub asks-goes : (v w : StoreView) (d : State) (s t : told.State) → w ≡ v → t ≡ s → IsOpen v d s → Goes v [] w d s t
 asks-goes v w d s t same kept o = subst (λ x. Goes v [] x d s t) (sym same) (subst (λ e. Goes v [] v d s e) (sym kept) (goes-none v d s o))
-
-pub asks-rooted : (v : StoreView) (d : State) (s t : told.State) → t ≡ s → IsOpen v d s → Leaves IsRooted s t
-asks-rooted v d s t kept o = subst (λ e. Leaves IsRooted s e) (sym kept) (rooted-none v d s o)
 
 pub stat-step : (e : ℕ) (s : State) (stat : Stat) (page : List ℕ) → stat.writes ≡ s.writes → stat.tables + stat.free ≤ e → IsStep e s (Some commands.stat) (reply_of (outcomes.Stat stat) page) (after_writes s [])
 stat-step e s stat page number within = ((number, within), no_writes s)
@@ -91,6 +86,10 @@ module _ (up : Bool) (result : Result Taken WriteFault) (fault : WriteFault) (wa
 -- the key of a get
 pub same-key : (a b : List ℕ) → ◌≡◌ {A = Option Command} (Some (commands.get a)) (Some (commands.get b)) → a ≡ b
 same-key a b h = cc
+
+-- the bound of a get's key is that of the command's
+pub get-bound : {T : Type 0} (D : Ghosts T) (pending : List Item) (a b : List ℕ) (command : Option Command) (old new : T) → command ≡ Some (commands.get a) → command ≡ Some (commands.get b) → KeepsBound D pending a old new → KeepsBound D pending b old new
+get-bound D pending a b command old new is was h = subst (λ (k : List ℕ). KeepsBound D pending k old new) (same-key a b (sym is ∙ was)) h
 
 pub tells-fault : (page : List ℕ) (seen : Result (Option Item) LookFault) (fault : LookFault) (told : WriteFault) → told ≡ fault_of_look fault → AnswersSeen page seen (Err fault) → TellsSeen seen page (Err told)
 tells-fault page seen looks.Device told is h = subst (λ (f : WriteFault). TellsSeen seen page (Err f)) (sym is) tt
@@ -175,9 +174,8 @@ module _ {T : Type 0} (D : Ghosts T) (item : Item) (v w : StoreView) (call : Res
     full_images = λ needed free is. h.full_images needed free (same.to (taken.Full needed free) is);
   }
 
-  pub event-rooted : WhileRooted D (Some item) v w (λ t. call ≡ Ok t) (λ f. IsErrOf call f) old new → WhileRooted D (Some item) v w (λ t. event ≡ Ok (outcomes.Taken t)) (λ f. IsErrOf event f) old new
-  event-rooted h = record {
-    rooted = h.rooted;
+  pub event-in-place : InPlace D (Some item) v w (λ t. call ≡ Ok t) (λ f. IsErrOf call f) old new → InPlace D (Some item) v w (λ t. event ≡ Ok (outcomes.Taken t)) (λ f. IsErrOf event f) old new
+  event-in-place h = record {
     flushed = λ due is. h.flushed due (same.to taken.Ok is);
     full_same = λ needed free is. h.full_same needed free (same.to (taken.Full needed free) is);
     full_quiet = λ needed free is. h.full_quiet needed free (same.to (taken.Full needed free) is);
@@ -186,10 +184,9 @@ module _ {T : Type 0} (D : Ghosts T) (item : Item) (v w : StoreView) (call : Res
   }
 
 -- an event that writes nothing
-pub none-rooted : {T : Type 0} (D : Ghosts T) (v w : StoreView) (event : Result Outcome WriteFault) (old new : T) → ((needed free : ℕ) → event ≡ Ok (outcomes.Taken (taken.Full needed free)) → ⊥)
-    → ((d : State) → IsOpen v d (D.state old) → Leaves IsRooted (D.state old) (D.state new)) → WhileRooted D None v w (λ t. event ≡ Ok (outcomes.Taken t)) (λ f. IsErrOf event f) old new
-none-rooted D v w event old new other rooted = record {
-  rooted = rooted;
+pub none-in-place : {T : Type 0} (D : Ghosts T) (v w : StoreView) (event : Result Outcome WriteFault) (old new : T) → ((needed free : ℕ) → event ≡ Ok (outcomes.Taken (taken.Full needed free)) → ⊥)
+    → InPlace D None v w (λ t. event ≡ Ok (outcomes.Taken t)) (λ f. IsErrOf event f) old new
+none-in-place D v w event old new other = record {
   flushed = tt;
   full_same = tt;
   full_quiet = λ needed free is. absurd (other needed free is);

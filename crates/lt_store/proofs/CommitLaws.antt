@@ -8,11 +8,8 @@ use Rattle.lt_device.specs.Moments.{MayLeave, Leaves, ConfinedTo, UnsyncedIn}
 use Rattle.lt_language.specs.Machine.{State}
 use Rattle.lt_format.specs.Log.{items_in, log_fits}
 use Rattle.lt_redo.specs.Slots.{HasLog, InSlot}
-use Rattle.lt_redo.proofs.NextGroup.{AnyMoment, Committed}
+use Rattle.lt_redo.specs.LogState.{AnyMoment, Committed}
 use Rattle.lt_image.specs.Standing.{after_writes}
-use Rattle.lt_image.proofs.RootLaws.{root-named}
-use Rattle.std.proofs.lemmas.Bool.{and_parts, leb-true}
-use Rattle.std.specs.Prelude.{nat_le}
 use Rattle.lt_store.specs.Committing.{StandsForEither, committed}
 use Rattle.lt_store.specs.Going.{Goes, Survives}
 use Rattle.lt_store.specs.Kept.{IsKept}
@@ -26,15 +23,12 @@ use Rattle.lt_redo.proofs.OpeningLaws.{items_in-push}
 
 -- what a kept store says of its view
 pub kept-fits : (v : StoreView) (d : State) (s : told.State) (taken : List Bool) (filters writes : ℕ) → IsOpen v d s → IsKept v.named v.log v.memory taken filters writes → Fits v
-kept-fits v d s taken filters writes o k =
-    let valid = (and_parts (nat_le 2 v.named.geometry.levels) (nat_le v.named.geometry.levels 5) (and_parts _ (nat_le 1 v.named.geometry.slots) (and_parts _ (nat_le v.named.geometry.slots 512) k.manifest.geometry).0).0).0 in
-    record {
-      geometry = k.geometry;
-      area = k.area;
-      start = k.start;
-      area_small = k.manifest.log_area;
-      pile = sym (root-named v.named.geometry.levels v.named.manifest.header.extents v.named.manifest.trie (leb-true _ _ valid) k.manifest.trie o.root_only.only);
-    }
+kept-fits v d s taken filters writes o k = record {
+  geometry = k.geometry;
+  area = k.area;
+  start = k.start;
+  area_small = k.manifest.log_area;
+}
 
 -- each image has the groups
 pub open-logs : (v : StoreView) (d : State) (s : told.State) (o : IsOpen v d s) → Fits v → (left : _) → MayLeave s left → HasLog v.log.geometry v.log.area v.log.writes o.groups left

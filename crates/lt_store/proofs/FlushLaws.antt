@@ -1,5 +1,5 @@
 -- The steps of a flush: the other log area is cleared, tables are built, and the manifest is committed.
-use Rattle.std.proofs.Common.{◌≡◌, ⊎_elim, ℕ, ◌+◌, ◌-◌, ◌/◌, ◌<◌, ◌≤◌, refl, sym, ap, subst, ◌∙◌, Bool, true, false, List, [], ◌∷◌, ◌++◌, length, Option, Some, None, Result, Ok, arith, append-nil}
+use Rattle.std.proofs.Common.{◌≡◌, ⊎_elim, ℕ, ◌+◌, ◌-◌, ◌/◌, ◌<◌, ◌≤◌, refl, sym, ap, subst, ◌∙◌, Bool, true, false, List, [], ◌∷◌, ◌++◌, length, Option, Some, None, Result, Ok, arith, append-nil, true≢false}
 use Rattle.std.specs.Prelude.{IsTrue, slice_index_or}
 use Rattle.std.specs.List.{AllByRecursion, AllZip}
 use Rattle.lt_terms.specs.Bytes.{Image, block_at}
@@ -20,7 +20,8 @@ use Rattle.lt_format.specs.Log.{items_in}
 use Rattle.lt_format.specs.Snapshot.{Named, InManifest, manifest_of, after_commit, Manifest}
 use Rattle.lt_format.specs.Trie.{named}
 use Rattle.lt_format.specs.Changes.{flush}
-use Rattle.lt_manifest.specs.Promise.{Names, HasNew, HasOldOrNew}
+use Rattle.lt_manifest.specs.Promise.{HasNew, HasOldOrNew}
+use Rattle.lt_format.specs.Snapshot.{Names}
 use Rattle.lt_redo.specs.LogState.{LogState, other_area}
 use Rattle.lt_redo.specs.Slots.{HasLog, InLogArea}
 use Rattle.lt_redo.proofs.AreaLaws.{has_log-local}
@@ -30,13 +31,13 @@ use Rattle.lt_image.specs.Standing.{bad_blocks, Stands, is_free_block}
 use Rattle.lt_image.proofs.CountLaws.{flushes}
 use Rattle.lt_image.proofs.LocalLaws.{local-stands}
 use Rattle.lt_image.proofs.OpenLaws.{is-opens}
-use Rattle.lt_image.proofs.RootLaws.{root-flush, root-tables}
 use Rattle.lt_image.proofs.StandLaws.{flush-stands}
-use Rattle.lt_store.specs.Building.{InExtents, KeepsFilter}
+use Rattle.lt_search.specs.Kept.{KeepsFilter}
+use Rattle.lt_search.proofs.KeepLaws.{inner-flush, inner-named}
+use Rattle.lt_store.specs.Building.{InExtents}
 use Rattle.lt_store.specs.Flushing.{Stays, AreFree, flushed_log, flushed}
-use Rattle.lt_store.specs.Open.{IsOpen, StoreView}
-use Rattle.lt_store.specs.Promise.{root_pile}
-use Rattle.lt_store.proofs.SameLaws.{Same, same-other, same-unnamed, same-names}
+use Rattle.lt_store.specs.Open.{IsOpen, StoreView, inner_of}
+use Rattle.lt_store.proofs.SameLaws.{Same, same-other, same-unnamed, same-names, within_all}
 use Rattle.lt_store.proofs.MomentLaws.{IsReady, open-steady, open-names, open-ready, open-agrees, open-same, open-from, keeps-same, same-ready, sure-agrees, open-image}
 
 -- what a store in memory says of its view, whatever the device holds
@@ -45,7 +46,6 @@ pub record Fits (v : StoreView) : Type 0 where
   pub area : v.log.area ≡ v.named.manifest.header.log_area
   pub start : v.log.writes ≡ v.named.manifest.header.writes
   pub area_small : v.named.manifest.header.log_area < 2
-  pub pile : root_pile v.named.manifest.trie ≡ named v.named.manifest.trie
 
 same_outside_apart : (inside : ℕ → Type 0) (a b c : Image) → SameOutside inside a b → SameOutside inside a c → SameOutside inside b c
 same_outside_apart inside a b c one two = record { size = two.size ∙ sym one.size; others = λ k out. two.others k out ∙ sym (one.others k out) }
@@ -64,16 +64,16 @@ clearing-stays v d old new o fits run =
 
 -- the log with the other area cleared fits as before
 pub cleared-fits : (v : StoreView) → Fits v → Fits (cleared v)
-cleared-fits v fits = record { geometry = fits.geometry; area = fits.area; start = fits.start; area_small = fits.area_small; pile = fits.pile }
+cleared-fits v fits = record { geometry = fits.geometry; area = fits.area; start = fits.start; area_small = fits.area_small }
 
 -- and once it is sure the store is open as before
 pub cleared-open : (v : StoreView) (d : State) (old new : told.State) (o : IsOpen v d old) → Fits v → ConfinedTo (InLogArea v.log.geometry (other_area v.log.area)) old new → UnsyncedIn (λ _. ⊥) new → IsOpen (cleared v) d new
 cleared-open v d old new o fits run sure =
     let same = clearing-stays v d old new o fits run in
     let now : ShownNow new = same.shows o.rest.image o.rest.shown o.rest.tells in
-    let ready : IsReady v d o.groups now.image = same-ready v d o.groups o.rest.image now.image fits.area fits.pile (same.now now.image now.tells) (open-ready v d old o) in
+    let ready : IsReady v d o.groups now.image = same-ready v d o.groups o.rest.image now.image fits.area (same.now now.image now.tells) (open-ready v d old o) in
     let steady = open-steady v d old o in
-    open-from (cleared v) d new o.groups now (record { slots = steady.slots; memory = steady.memory; root_only = steady.root_only }) (record { names = ready.names; stands = ready.stands; log = ready.log; filters = ready.filters })
+    open-from (cleared v) d new o.groups now (record { slots = steady.slots; memory = steady.memory }) (record { names = ready.names; stands = ready.stands; log = ready.log; filters = ready.filters })
     (sure-agrees (λ n. IsTrue (is_free_block v.named n)) new now sure)
 
 -- ---- tables in free extents
@@ -93,24 +93,20 @@ free-block m numbers free n inside =
 abbrev pub KeepsOthers : List ℕ → List (Option (List ℕ)) → List (Option (List ℕ)) → Type 0
 KeepsOthers numbers old new = (x : ℕ) → is_in x numbers ≡ false → slice_index_or new x None ≡ slice_index_or old x None
 
-kept-filters : (g : Geometry) (numbers : List ℕ) (old new : List (Option (List ℕ))) (image : Image) (all xs : List ℕ) → KeepsOthers numbers old new → ((x : ℕ) → is_in x numbers ≡ true → is_in x all ≡ false) → ((x : ℕ) → is_in x xs ≡ true → is_in x all ≡ true)
+kept-filters : (g : Geometry) (numbers : List ℕ) (old new : List (Option (List ℕ))) (image : Image) (xs : List ℕ) → KeepsOthers numbers old new → AllByRecursion (λ x. is_in x numbers ≡ false) xs
     → AllByRecursion (KeepsFilter g old image) xs → AllByRecursion (KeepsFilter g new image) xs
-kept-filters g numbers old new image all [] others apart sub kept = tt
-kept-filters g numbers old new image all (x ∷ xs) others apart sub kept =
-    (others x (not_in x (sub x (first x xs))) ∙ kept.0, kept-filters g numbers old new image all xs others apart (λ y there. sub y (behind y x xs there)) kept.1)
+kept-filters g numbers old new image [] others apart kept = tt
+kept-filters g numbers old new image (x ∷ xs) others apart kept = (others x apart.0 ∙ kept.0, kept-filters g numbers old new image xs others apart.1 kept.1)
+
+-- free extents are not those of the inner tables
+inner-apart : (m : Named) (numbers : List ℕ) → AreFree m numbers → AllByRecursion (λ x. is_in x numbers ≡ false) (inner_of m)
+inner-apart m numbers free =
+    inner-named (λ x. is_in x numbers ≡ false) m.geometry.levels m.manifest.trie
+    (within_all (λ x. is_in x numbers ≡ false) (named m.manifest.trie) (named m.manifest.trie) (λ x there. by_number x there (is_in x numbers) refl) (λ x there. there))
   where
-    first : (x : ℕ) (xs : List ℕ) → is_in x (x ∷ xs) ≡ true
-    first x xs = grind arith
-
-    behind : (y x : ℕ) (xs : List ℕ) → is_in y xs ≡ true → is_in y (x ∷ xs) ≡ true
-    behind y x xs there = grind arith
-
-    not_in : (x : ℕ) → is_in x all ≡ true → is_in x numbers ≡ false
-    not_in x there = decide (is_in x numbers) refl
-      where
-        decide : (b : Bool) → is_in x numbers ≡ b → is_in x numbers ≡ false
-        decide true is = absurd (let no : true ≡ false = sym there ∙ apart x is in cc)
-        decide false is = is
+    by_number : (x : ℕ) → is_in x (named m.manifest.trie) ≡ true → (b : Bool) → is_in x numbers ≡ b → is_in x numbers ≡ false
+    by_number x there true is = absurd (true≢false (sym there ∙ free.unnamed x is))
+    by_number x there false is = is
 
 abbrev pub with_kept : StoreView → List (Option (List ℕ)) → StoreView
 with_kept v kept = record v { kept = kept }
@@ -125,17 +121,17 @@ built-open v d numbers kept old new o fits free others run =
     let base : Image = o.rest.image in
     let same = building-stays v d numbers old new o fits free run in
     let now : ShownNow new = same.shows base o.rest.shown o.rest.tells in
-    let ready : IsReady v d o.groups now.image = same-ready v d o.groups base now.image fits.area fits.pile (same.now now.image now.tells) (open-ready v d old o) in
+    let ready : IsReady v d o.groups now.image = same-ready v d o.groups base now.image fits.area (same.now now.image now.tells) (open-ready v d old o) in
     let near = λ (left : Image) (may : MayLeave new left).
     let n = run.now left may in
     same_outside_widens _ free_blocks base left (λ k either. ⊎_elim (λ f. f) (free-block v.named numbers free k) either) (same_outside_joins free_blocks (InExtents v.named.geometry numbers) base n.image left (open-agrees v d old o n.image n.was) n.same) in
     let steady = open-steady v d old o in
-    open-from (with_kept v kept) d new o.groups now (record { slots = steady.slots; memory = steady.memory; root_only = steady.root_only })
+    open-from (with_kept v kept) d new o.groups now (record { slots = steady.slots; memory = steady.memory })
     (record {
       names = ready.names;
       stands = ready.stands;
       log = ready.log;
-      filters = kept-filters v.named.geometry numbers v.kept kept now.image (named v.named.manifest.trie) (root_pile v.named.manifest.trie) others free.unnamed (λ x there. subst (λ xs. is_in x xs ≡ true) fits.pile there) ready.filters;
+      filters = kept-filters v.named.geometry numbers v.kept kept now.image (inner_of v.named) others (inner-apart v.named numbers free) ready.filters;
     })
     (λ left may. same_outside_apart free_blocks base now.image left (near now.image now.tells) (near left may))
 
@@ -169,10 +165,6 @@ same_named m a b same = record {
   log = λ n low high. behind-manifest a b same n (omega arith);
   kept = each_all (SameExtent m.geometry a b) (named m.manifest.trie) (λ x c small. behind-extents m.geometry a b same x c);
 }
-
-all-append : (P : ℕ → Type 0) (xs ys : List ℕ) → AllByRecursion P xs → AllByRecursion P ys → AllByRecursion P (xs ++ ys)
-all-append P [] ys one two = two
-all-append P (x ∷ xs) ys one two = (one.0, all-append P xs ys one.1 two)
 
 module _ (v : StoreView) (d : State) (old new : told.State) (o : IsOpen v d old) (fits : Fits v) (numbers : List ℕ) (header : Header)
     (idle : v.log.pending ≡ []) (other : header.log_area ≡ other_area v.named.manifest.header.log_area) (writes : header.writes ≡ v.named.manifest.header.writes + length v.memory)
@@ -233,13 +225,11 @@ module _ (v : StoreView) (d : State) (old new : told.State) (o : IsOpen v d old)
       let has : HasNew n shown now.image = each now.image now.tells in
       let log : HasLog g (other_area v.named.manifest.header.log_area) header.writes [] now.image = has_log-local g (other_area v.named.manifest.header.log_area) header.writes [] shown now.image (λ k inside. behind-manifest shown now.image has.same k (let from = inside.0 in omega arith)) clear in
       let log' : HasLog g (other_area v.log.area) header.writes [] now.image = subst (λ k. HasLog g (other_area k) header.writes [] now.image) (sym fits.area) log in
-      let pile : root_pile n.manifest.trie ≡ root_pile v.named.manifest.trie ++ numbers = root-tables v.named.manifest.trie numbers in
       let extents : ◌≡◌ {A = ℕ → ℕ → List ℕ} (extent_at g shown) (extent_at g now.image) = λ i x c. sym (behind-extents g shown now.image has.same x c) i in
-      let all = all-append (KeepsFilter g v.kept shown) (root_pile v.named.manifest.trie) numbers o.filters kept in
-      let all' = subst (AllByRecursion (KeepsFilter g v.kept shown)) (sym pile) all in
-      let filters : AllByRecursion (KeepsFilter g v.kept now.image) (root_pile n.manifest.trie) = subst (λ (f : ℕ → ℕ → List ℕ). AllByRecursion (λ x. slice_index_or v.kept x None ≡ Some (f x 64)) (root_pile n.manifest.trie)) extents all' in
+      let all : AllByRecursion (KeepsFilter g v.kept shown) (inner_of n) = inner-flush (KeepsFilter g v.kept shown) g.levels v.named.manifest.trie numbers o.filters kept in
+      let filters : AllByRecursion (KeepsFilter g v.kept now.image) (inner_of n) = subst (λ (f : ℕ → ℕ → List ℕ). AllByRecursion (λ x. slice_index_or v.kept x None ≡ Some (f x 64)) (inner_of n)) extents all in
       open-from (flushed v n header) d new [] now
-      (record { slots = refl; memory = refl; root_only = record { only = root-flush v.named.manifest.trie numbers o.root_only.only } })
+      (record { slots = refl; memory = refl })
       (record { names = has.names; stands = new-stands area now.image has; log = log'; filters = filters })
       (sure-agrees (λ k. IsTrue (is_free_block n k)) new now sure)
 

@@ -17,7 +17,8 @@ use Rattle.lt_format.specs.Trie.{named, table_total as tables_in}
 use Rattle.lt_format.proofs.Numbers.{times, absent-times, without, length-without}
 use Rattle.lt_redo.specs.LogState.{LogState}
 use Rattle.lt_redo.specs.Slots.{HasLog}
-use Rattle.lt_image.specs.Counts.{HasCounts, IsFullImage}
+use Rattle.lt_image.specs.Pressure.{IsFullImage}
+use Rattle.lt_image.specs.Standing.{HasCounts}
 use Rattle.lt_image.specs.Versions.{free_extents, Opened, open_image}
 use Rattle.lt_image.proofs.OpenLaws.{is-opens}
 use Rattle.lt_image.proofs.StandLaws.{stands-as}

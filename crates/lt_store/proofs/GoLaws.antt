@@ -1,19 +1,27 @@
 -- How calls of an open store follow one another.
-use Rattle.std.proofs.Common.{◌≡◌, ℕ, ◌+◌, ◌≤◌, refl, sym, ap, subst, ◌∙◌, List, [], ◌∷◌, ◌++◌, length, take, drop, arith, append-nil, append_assoc, length-append}
+use Rattle.std.proofs.Common.{◌≡◌, ℕ, ◌+◌, ◌≤◌, sym, ap, subst, ◌∙◌, List, [], ◌∷◌, ◌++◌, length, take, drop, Some, arith, append-nil, append_assoc, length-append}
 use Rattle.std.proofs.Math.Seq.{take-append-add, drop-append-add}
 use Rattle.std.proofs.lemmas.List.{take-append-le, drop-append-le, take-append-drop}
+use Rattle.std.specs.Prelude.{IsTrue}
+use Rattle.lt_terms.specs.Bytes.{Image}
 use Rattle.lt_terms.specs.Items.{Item}
+use Rattle.lt_device.specs.Moments.{MayLeave, ShownNow, UnsyncedIn}
 use Rattle.lt_device.specs.State as told
 use Rattle.lt_device.proofs.Runs.{begins, joins, weakens}
 use Rattle.lt_format.specs.declared.geometry.Geometry.{Geometry}
+use Rattle.lt_format.specs.Snapshot.{Named}
 use Rattle.lt_language.specs.Machine.{State, nothing_yet}
-use Rattle.lt_image.specs.Standing.{IsPrefix, after_writes}
+use Rattle.lt_format.specs.Snapshot.{Names}
+use Rattle.lt_image.specs.Standing.{IsPrefix, Stands, after_writes, is_free_block}
+use Rattle.lt_image.proofs.OpenLaws.{opens-is}
 use Rattle.lt_image.proofs.KeptLaws.{writes-joined, no_writes}
 use Rattle.lt_image.proofs.PrefixLaws.{prefix-fewer, prefix-later, prefix-longer, prefix-none}
 use Rattle.lt_store.specs.Open.{IsOpen, StoreView, state_of}
-use Rattle.lt_store.specs.Promise.{IsRootOnly, Rests, IsFresh}
+use Rattle.lt_store.specs.Promise.{AtRest, IsFresh}
 use Rattle.lt_store.specs.Going.{Survives, Goes, appended}
 use Rattle.lt_store.specs.Flushing.{Stays}
+use Rattle.lt_store.proofs.MomentLaws.{sure-agrees}
+use Rattle.lt_store.proofs.SameLaws.{same-free, same-stands}
 
 -- nothing happened
 pub goes-none : (v : StoreView) (d : State) (s : told.State) → IsOpen v d s → Goes v [] v d s s
@@ -55,7 +63,6 @@ goes-append v w item d old new g =
         slots = o.slots;
         memory = ap (λ xs. xs ++ item ∷ []) o.memory ∙ append_assoc _ w.log.pending (item ∷ []);
         filters = o.filters;
-        root_only = o.root_only;
       });
       survives = weakens g.survives (λ left p'. subst (λ xs. IsPrefix left d (xs ++ item ∷ []) 0) none (prefix-longer left d (p ++ []) (item ∷ []) 0 p'));
     }
@@ -117,8 +124,25 @@ module _ (v w : StoreView) (a : List Item) (d : State) (old mid : told.State) (g
 
 -- ---- devices at rest
 
-pub open-rests : (v : StoreView) (d : State) (s : told.State) → IsOpen v d s → Rests d s
-open-rests v d s o = record { rest = o.rest; root_only = subst (λ n. IsRootOnly n.manifest.trie) (sym o.named) o.root_only }
+pub open-rests : (v : StoreView) (d : State) (s : told.State) → IsOpen v d s → AtRest d s
+open-rests v d s o = o.rest
 
-pub fresh-rests : (g : Geometry) (extents : ℕ) (s : told.State) → IsFresh g extents s → Rests nothing_yet s
-fresh-rests g extents s fresh = record { rest = fresh.rest; root_only = subst (λ n. IsRootOnly n.manifest.trie) (sym fresh.named) (record { only = refl }) }
+pub fresh-rests : (g : Geometry) (extents : ℕ) (s : told.State) → IsFresh g extents s → AtRest nothing_yet s
+fresh-rests g extents s fresh = fresh.rest
+
+-- a device that a crash left, with nothing unsynced, is at rest
+pub crashed-rests : (d : State) (s : told.State) (image : Image) → s.shown ≡ Some image → MayLeave s image → UnsyncedIn (λ _. ⊥) s → Stands image d → AtRest d s
+crashed-rests d s image shown tells sure stands =
+    let now : ShownNow s = record { image = image; shown = shown; tells = tells } in
+    let named : Named = stands.opened.named in
+    let names : Names named image = record { read = (opens-is image stands.opened stands.opens).named } in
+    let agree = sure-agrees (λ n. IsTrue (is_free_block named n)) s now sure in
+    record {
+      image = image;
+      shown = shown;
+      tells = tells;
+      each = λ left may. same-stands named image left d (same-free named image left names (agree left may)) names stands;
+      named = named;
+      names = names;
+      agree = agree;
+    }

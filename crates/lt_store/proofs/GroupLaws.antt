@@ -15,7 +15,7 @@ use Rattle.lt_format.specs.Log.{items_in}
 use Rattle.lt_format.specs.Snapshot.{manifest_of}
 use Rattle.lt_format.specs.Trie.{named}
 use Rattle.lt_format.proofs.LocalLaws.{manifest-local}
-use Rattle.lt_manifest.specs.Promise.{Names}
+use Rattle.lt_format.specs.Snapshot.{Names}
 use Rattle.lt_redo.specs.LogState.{LogState, slots_with, groups_with}
 use Rattle.lt_redo.specs.Slots.{HasLog, HasLogOrLonger, InSlot}
 use Rattle.lt_image.specs.After.{Keeps, SameExtent}
@@ -23,10 +23,9 @@ use Rattle.lt_image.specs.Versions.{Opened, open_image, extent_in}
 use Rattle.lt_image.specs.Standing.{Stands, is_free_block, after_writes, IsPrefix}
 use Rattle.lt_image.proofs.KeptLaws.{log-grows, no_writes}
 use Rattle.lt_image.proofs.OpenLaws.{is-opens}
-use Rattle.lt_store.specs.Building.{KeepsFilter}
+use Rattle.lt_search.specs.Kept.{KeepsFilter}
 use Rattle.lt_store.specs.Committing.{StandsForEither, committed, committed_log}
-use Rattle.lt_store.specs.Open.{IsOpen, StoreView}
-use Rattle.lt_store.specs.Promise.{root_pile}
+use Rattle.lt_store.specs.Open.{IsOpen, StoreView, inner_of}
 use Rattle.lt_store.proofs.SameLaws.{same-names, same-log, same-filters}
 use Rattle.lt_store.proofs.MomentLaws.{open-names, open-same, open-from, sure-agrees}
 use Rattle.lt_store.proofs.FlushLaws.{Fits, each_all}
@@ -123,10 +122,10 @@ module _ (v : StoreView) (d : State) (old new : told.State) (o : IsOpen v d old)
       let groups : List (List Item) = groups_with o.groups v.log.pending in
       let log : HasLog v.log.geometry v.log.area v.log.writes groups now.image = each now.image now.tells in
       let extents : ◌≡◌ {A = ℕ → ℕ → List ℕ} (extent_in g near.image) (extent_in g now.image) = λ i x c. sym (behind-slot g area v.log.slots near.image now.image fits.area_small within near.same x c) i in
-      let filters_near : AllByRecursion (KeepsFilter g v.kept near.image) (root_pile v.named.manifest.trie) = subst (AllByRecursion (KeepsFilter g v.kept near.image)) (sym fits.pile) (same-filters v.named v.kept o.rest.image near.image base_same (subst (AllByRecursion (KeepsFilter g v.kept o.rest.image)) fits.pile o.filters)) in
-      let filters : AllByRecursion (KeepsFilter g v.kept now.image) (root_pile v.named.manifest.trie) = subst (λ (f : ℕ → ℕ → List ℕ). AllByRecursion (λ x. slice_index_or v.kept x None ≡ Some (f x 64)) (root_pile v.named.manifest.trie)) extents filters_near in
+      let filters_near : AllByRecursion (KeepsFilter g v.kept near.image) (inner_of v.named) = same-filters v.named v.kept o.rest.image near.image base_same o.filters in
+      let filters : AllByRecursion (KeepsFilter g v.kept now.image) (inner_of v.named) = subst (λ (f : ℕ → ℕ → List ℕ). AllByRecursion (λ x. slice_index_or v.kept x None ≡ Some (f x 64)) (inner_of v.named)) extents filters_near in
       open-from (committed v) (after_writes d v.log.pending) new groups now
-      (record { slots = groups_with-length o.groups v.log.slots v.log.pending o.slots; memory = o.memory ∙ sym (groups_with-items o.groups v.log.pending) ∙ sym (append-nil (items_in groups)); root_only = o.root_only })
+      (record { slots = groups_with-length o.groups v.log.slots v.log.pending o.slots; memory = o.memory ∙ sym (groups_with-items o.groups v.log.pending) ∙ sym (append-nil (items_in groups)) })
       (record {
         names = record { read = manifest-local near.image now.image near.same.size (low-slot g area v.log.slots near.image now.image near.same) ∙ names.read };
         stands = grown v d old o fits within near.image now.image groups v.log.pending near.was near.same (log_at now.image groups log) (groups_with-items o.groups v.log.pending);

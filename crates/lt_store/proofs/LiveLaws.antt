@@ -9,13 +9,11 @@ use Rattle.lt_store.specs.declared.store.Store.{Store}
 use Rattle.lt_store.specs.Calls.{LivesOn}
 use Rattle.lt_store.specs.Open.{IsOpen, StoreView, extents_of}
 use Rattle.lt_store.specs.View.{view_of}
-use Rattle.lt_store.proofs.RootedLaws.{rooted-none}
 
 -- no call of the device was made, and the store is as it was
 pub unflushed : {T A : Type 0} (D : Ghosts T) (s t : Store) (result : Result A FlushFault) (device : T) → view_of t ≡ view_of s → s.is_up ≡ true → (IsErrOf result Device → ⊥) → LivesOn D s t result device device
 unflushed D s t result device same up fine = record {
   stays = λ d o. begins (D.state device) o.rest.each;
-  rooted = λ d o. rooted-none (view_of s) d (D.state device) o;
   opened = λ on d o. subst (λ (v : StoreView). IsOpen v d (D.state device)) (sym same) o;
   up = ((λ down. absurd (true≢false (sym still ∙ down))), (λ failed. absurd (fine failed)));
   writes = ap (λ (v : StoreView). v.writes) same;

@@ -14,7 +14,7 @@ use Rattle.lt_format.specs.Layout.{is_geometry, geometry_of, superblock, selecte
 use Rattle.lt_format.specs.Snapshot.{Manifest, snapshot_in, ◌>>=◌, InManifest, geometry_in, manifest_in, manifest_of, roomy}
 use Rattle.lt_format.proofs.LocalLaws.{snapshot-local}
 use Rattle.lt_layout.proofs.SuperLaws.{geometry_of-superblock}
-use Rattle.lt_manifest.specs.Promise.{fresh}
+use Rattle.lt_format.specs.Snapshot.{fresh}
 use Rattle.lt_redo.specs.Slots.{IsCleared}
 use Rattle.lt_redo.proofs.ClearLaws.{has_log-cleared}
 use Rattle.lt_image.specs.Standing.{Stands}

@@ -12,14 +12,12 @@ use Rattle.lt_device.proofs.Runs.{begins, weakens, confined_keeps}
 use Rattle.lt_device.proofs.Rest.{unsynced_near}
 use Rattle.lt_language.specs.Machine.{State}
 use Rattle.lt_format.specs.Log.{items_in}
-use Rattle.lt_format.specs.Trie.{named}
-use Rattle.lt_manifest.specs.Promise.{Names}
+use Rattle.lt_format.specs.Snapshot.{Names}
 use Rattle.lt_redo.specs.Slots.{HasLog}
 use Rattle.lt_image.specs.Standing.{Stands, is_free_block}
-use Rattle.lt_store.specs.Building.{KeepsFilter}
+use Rattle.lt_search.specs.Kept.{KeepsFilter}
 use Rattle.lt_store.specs.Flushing.{Stays}
-use Rattle.lt_store.specs.Open.{IsOpen, StoreView}
-use Rattle.lt_store.specs.Promise.{root_pile, IsRootOnly}
+use Rattle.lt_store.specs.Open.{IsOpen, StoreView, inner_of}
 use Rattle.lt_store.proofs.SameLaws.{Same, same-trans, same-names, same-stands, same-log, same-filters, same-free}
 use Rattle.lt_image.proofs.OpenLaws.{is-opens}
 use Rattle.lt_image.specs.Versions.{open_image}
@@ -29,16 +27,15 @@ pub record IsReady (v : StoreView) (d : State) (groups : List (List Item)) (imag
   pub names : Names v.named image
   pub stands : Stands image d
   pub log : HasLog v.named.geometry v.log.area v.log.writes groups image
-  pub filters : AllByRecursion (KeepsFilter v.named.geometry v.kept image) (root_pile v.named.manifest.trie)
+  pub filters : AllByRecursion (KeepsFilter v.named.geometry v.kept image) (inner_of v.named)
 
 -- what it has whatever the device holds
 pub record IsSteady (v : StoreView) (groups : List (List Item)) : Type 0 where
   pub slots : v.log.slots ≡ length groups
   pub memory : v.memory ≡ items_in groups ++ v.log.pending
-  pub root_only : IsRootOnly v.named.manifest.trie
 
 pub open-steady : (v : StoreView) (d : State) (s : told.State) (o : IsOpen v d s) → IsSteady v o.groups
-open-steady v d s o = record { slots = o.slots; memory = o.memory; root_only = o.root_only }
+open-steady v d s o = record { slots = o.slots; memory = o.memory }
 
 pub open-names : (v : StoreView) (d : State) (s : told.State) (o : IsOpen v d s) → Names v.named o.rest.image
 open-names v d s o = subst (λ n. Names n o.rest.image) o.named o.rest.names
@@ -72,7 +69,6 @@ open-from v d s groups now steady ready agree = record {
   slots = steady.slots;
   memory = steady.memory;
   filters = ready.filters;
-  root_only = steady.root_only;
 }
 
 -- ---- calls that change nothing that the manifest names
@@ -92,12 +88,12 @@ same-stays v d old new o run =
     weakens run (λ left same. same-stands v.named base left d same (open-names v d old o) (o.rest.each base o.rest.tells))
 
 -- what is ready on an image is ready on one that is the same in all that the manifest names
-pub same-ready : (v : StoreView) (d : State) (groups : List (List Item)) (a b : Image) → v.log.area ≡ v.named.manifest.header.log_area → root_pile v.named.manifest.trie ≡ named v.named.manifest.trie → Same v.named a b → IsReady v d groups a → IsReady v d groups b
-same-ready v d groups a b area pile same ready = record {
+pub same-ready : (v : StoreView) (d : State) (groups : List (List Item)) (a b : Image) → v.log.area ≡ v.named.manifest.header.log_area → Same v.named a b → IsReady v d groups a → IsReady v d groups b
+same-ready v d groups a b area same ready = record {
   names = same-names v.named a b same ready.names;
   stands = same-stands v.named a b d same ready.names ready.stands;
   log = subst (λ k. HasLog v.named.geometry k v.log.writes groups b) (sym area) (same-log v.named a b v.log.writes groups same (subst (λ k. HasLog v.named.geometry k v.log.writes groups a) area ready.log));
-  filters = subst (AllByRecursion (KeepsFilter v.named.geometry v.kept b)) (sym pile) (same-filters v.named v.kept a b same (subst (AllByRecursion (KeepsFilter v.named.geometry v.kept a)) pile ready.filters));
+  filters = same-filters v.named v.kept a b same ready.filters;
 }
 
 -- once all is sure there is one image alone
@@ -114,7 +110,6 @@ open-alike v d s up taken o = record {
   slots = o.slots;
   memory = o.memory;
   filters = o.filters;
-  root_only = o.root_only;
 }
 
 -- what the image of an open store opens as

@@ -13,6 +13,8 @@ use Rattle.lt_format.specs.declared.geometry.Geometry.{Geometry}
 use Rattle.lt_format.specs.Layout.{is_geometry, log_gate, extent_block, blocks_needed}
 use Rattle.lt_format.specs.Log.{log_groups, items_in}
 use Rattle.lt_format.specs.Snapshot.{Named, geometry_in, manifest_in, manifest_of, Manifest, IsManifest, extents_stand, ◌>>=◌}
+use Rattle.lt_format.specs.Trie.{named}
+use Rattle.lt_format.proofs.Numbers.{length-distinct}
 use Rattle.lt_format.proofs.ReadLaws.{ok_same}
 use Rattle.lt_manifest.specs.Promise.{InSnapshot}
 use Rattle.lt_redo.specs.LogState.{LogState}
@@ -20,11 +22,12 @@ use Rattle.lt_redo.specs.Opening.{HasItems}
 use Rattle.lt_redo.specs.Slots.{InLogArea}
 use Rattle.lt_image.specs.Versions.{open_image}
 use Rattle.lt_image.proofs.OpenLaws.{opens-is}
-use Rattle.lt_store.specs.Building.{KeepsFilter}
-use Rattle.lt_store.specs.Open.{StoreView, IsOpen, blocks_of}
-use Rattle.lt_store.specs.Promise.{root_pile, AtRest, IsRootOnly}
-use Rattle.lt_store.specs.Reading.{Reads, KeepsFilters, IsBelowExtents, Assembles, log_at}
-use Rattle.lt_store.proofs.FilterLaws.{pile-few}
+use Rattle.lt_search.specs.Kept.{KeepsFilter}
+use Rattle.lt_search.specs.Kept.{KeepsExactly, inner_tables}
+use Rattle.lt_search.proofs.KeepLaws.{inner-few}
+use Rattle.lt_store.specs.Open.{StoreView, IsOpen, blocks_of, inner_of}
+use Rattle.lt_store.specs.Promise.{AtRest}
+use Rattle.lt_store.specs.Reading.{Reads, IsBelowExtents, Assembles, log_at}
 
 -- ---- the manifest
 
@@ -79,8 +82,8 @@ rest-named v s d r reads =
     ok_same r.named q.opened.named (sym r.names.read ∙ parts.named) ∙ sym q.named_is
 
 -- and is open on a device at rest
-pub rest-open : (v : StoreView) (s : State) (d : told.State) (r : AtRest s d) → IsRootOnly r.named.manifest.trie → ForSome d.shown (Reads v) → IsOpen v s d
-rest-open v s d r only reads =
+pub rest-open : (v : StoreView) (s : State) (d : told.State) (r : AtRest s d) → ForSome d.shown (Reads v) → IsOpen v s d
+rest-open v s d r reads =
     let q : Reads v r.image = reads r.image r.shown in
     let parts = opens-is r.image q.opened q.opens in
     let here : r.named ≡ v.named = rest-named v s d r reads in
@@ -94,8 +97,7 @@ rest-open v s d r only reads =
       };
       slots = ap (λ l. l.slots) q.log;
       memory = q.memory ∙ sym (append-nil (items_in q.opened.groups)) ∙ ap (λ xs. items_in q.opened.groups ++ xs) (sym (ap (λ l. l.pending) q.log));
-      filters = subst (λ n. AllByRecursion (KeepsFilter n.geometry v.kept r.image) (root_pile n.manifest.trie)) (sym q.named_is) q.filters.each;
-      root_only = subst (λ n. IsRootOnly n.manifest.trie) here only;
+      filters = subst (λ n. AllByRecursion (KeepsFilter n.geometry v.kept r.image) (inner_of n)) (sym q.named_is) q.filters.each;
     }
 
 -- ---- where damage lies
@@ -121,7 +123,7 @@ low-below b low = record { geometry = record { levels = 2; slots = 1 }; valid = 
 pub log-damaged : (image : Image) (g : Geometry) (n : Named) (b : ℕ) → n.geometry ≡ g → manifest_of image ≡ Ok n → log_groups g image n.manifest.header.log_area n.manifest.header.writes ≡ Err b → open_image image ≡ Err b
 log-damaged image g n b same is damaged = no_log image n b is (subst (λ q. log_groups q image n.manifest.header.log_area n.manifest.header.writes ≡ Err b) (sym same) damaged)
 
-pub assembled-reads : (image : Image) (g : Geometry) (n : Named) (log : LogState) (items all : List Item) (kept : List (Option (List ℕ))) (v : StoreView) → n.geometry ≡ g → manifest_of image ≡ Ok n → log ≡ log_at n log.slots → HasItems g n.manifest.header.log_area n.manifest.header.writes log.slots items image → all ≡ items → KeepsFilters g kept (root_pile n.manifest.trie) image
+pub assembled-reads : (image : Image) (g : Geometry) (n : Named) (log : LogState) (items all : List Item) (kept : List (Option (List ℕ))) (v : StoreView) → n.geometry ≡ g → manifest_of image ≡ Ok n → log ≡ log_at n log.slots → HasItems g n.manifest.header.log_area n.manifest.header.writes log.slots items image → all ≡ items → KeepsExactly g kept (inner_of n) image
     → Assembles n log all kept v → Reads v image
 assembled-reads image g n log items all kept v same is log_is has items_is filters a =
     let read : log_groups n.geometry image n.manifest.header.log_area n.manifest.header.writes ≡ Ok has.groups = subst (λ q. log_groups q image n.manifest.header.log_area n.manifest.header.writes ≡ Ok has.groups) (sym same) has.log.read in
@@ -134,7 +136,7 @@ assembled-reads image g n log items all kept v same is log_is has items_is filte
       memory = a.memory ∙ whole;
       writes = a.writes ∙ ap (λ (xs : List Item). n.manifest.header.writes + length xs) whole;
       taken_named = a.taken_named;
-      filters = subst (λ q. KeepsFilters q v.kept (root_pile n.manifest.trie) image) (sym same) (subst (λ f. KeepsFilters g f (root_pile n.manifest.trie) image) (sym a.kept_is) filters);
+      filters = subst (λ q. KeepsExactly q v.kept (inner_of n) image) (sym same) (subst (λ f. KeepsExactly g f (inner_of n) image) (sym a.kept_is) filters);
     }
 
 -- ---- how many blocks are read
@@ -159,9 +161,10 @@ stands-few g blocks e stands =
 pub stands-room : (g : Geometry) (blocks e : ℕ) → extents_stand g blocks e ≡ true → blocks_needed g e ≤ blocks
 stands-room g blocks e stands = leb-true _ _ (and_parts (nat_le 1 e && nat_le e 65536) (nat_le (blocks_needed g e) blocks) stands).1
 
--- no store has more slots and more tables of the root than these
-pub few-reads : (g : Geometry) (blocks : ℕ) (m : Manifest) → is_geometry g ≡ true → IsManifest g blocks m → 307 + 2 * g.slots + length (root_pile m.trie) ≤ 307 + 2 * 512 + 65536
-few-reads g blocks m valid is = omega (arith, few-slots g valid, pile-few m.trie is.trie, stands-few g blocks m.header.extents is.extents)
+-- no store has more slots and more inner tables than these
+pub few-reads : (g : Geometry) (blocks : ℕ) (m : Manifest) → is_geometry g ≡ true → IsManifest g blocks m → 307 + 2 * g.slots + length (inner_tables g.levels m.trie) ≤ 307 + 2 * 512 + 65536
+few-reads g blocks m valid is =
+    omega (arith, few-slots g valid, inner-few g.levels m.trie, length-distinct m.header.extents (named m.trie) is.trie.distinct is.trie.below, stands-few g blocks m.header.extents is.extents)
 
 pub assembled-room : (g : Geometry) (blocks : ℕ) (n : Named) (log : LogState) (items : List Item) (kept : List (Option (List ℕ))) (v : StoreView) → n.geometry ≡ g → IsManifest g blocks n.manifest → Assembles n log items kept v → blocks_of v ≤ blocks
 assembled-room g blocks n log items kept v same is a =

@@ -21,7 +21,8 @@ use Rattle.lt_redo.specs.LogState.{other_area}
 use Rattle.lt_redo.specs.Slots.{HasLog, InLogArea}
 use Rattle.lt_redo.proofs.AreaLaws.{has_log-local}
 use Rattle.lt_image.specs.After.{PlacedIn}
-use Rattle.lt_store.specs.Building.{InExtents, KeepsFilter, HasTable}
+use Rattle.lt_search.specs.Kept.{KeepsFilter}
+use Rattle.lt_store.specs.Building.{InExtents, HasTable}
 use Rattle.lt_store.specs.Flushing.{Stays, AreFree, IsPrepared}
 use Rattle.lt_store.specs.Open.{IsOpen, StoreView}
 use Rattle.lt_store.proofs.FlushLaws.{Fits, with_kept}

@@ -11,14 +11,17 @@ use Rattle.lt_format.specs.Layout.{extent_block, log_gate}
 use Rattle.lt_format.specs.Snapshot.{Named}
 use Rattle.lt_format.specs.Trie.{named}
 use Rattle.lt_format.proofs.LocalLaws.{manifest-local}
-use Rattle.lt_manifest.specs.Promise.{Names}
+use Rattle.lt_format.specs.Snapshot.{Names}
 use Rattle.lt_redo.specs.LogState.{other_area}
 use Rattle.lt_redo.specs.Slots.{HasLog, InLogArea}
 use Rattle.lt_redo.proofs.AreaLaws.{has_log-local}
 use Rattle.lt_image.specs.After.{SameExtent, SameExtents, SameNamed}
 use Rattle.lt_image.specs.Standing.{Stands, is_free_block}
 use Rattle.lt_image.proofs.LocalLaws.{local-stands, not_free-named, fixed_not_free}
-use Rattle.lt_store.specs.Building.{InExtents, KeepsFilter}
+use Rattle.lt_search.specs.Kept.{KeepsFilter}
+use Rattle.lt_search.proofs.KeepLaws.{inner-named}
+use Rattle.lt_store.specs.Building.{InExtents}
+use Rattle.lt_store.specs.Open.{inner_of}
 
 -- the images have as many blocks, and the same below the logs, in the log area and in the extents that the manifest names
 pub record Same (m : Named) (a b : Image) : Type 0 where
@@ -55,13 +58,13 @@ filters-same : (g : Geometry) (kept : List (Option (List ℕ))) (a b : Image) (x
 filters-same g kept a b [] same all = tt
 filters-same g kept a b (x ∷ xs) same all = (all.0 ∙ ap Some (sym (same.0 64 (omega arith))), filters-same g kept a b xs same.1 all.1)
 
-pub same-filters : (m : Named) (kept : List (Option (List ℕ))) (a b : Image) → Same m a b → AllByRecursion (KeepsFilter m.geometry kept a) (named m.manifest.trie) → AllByRecursion (KeepsFilter m.geometry kept b) (named m.manifest.trie)
-same-filters m kept a b same all = filters-same m.geometry kept a b (named m.manifest.trie) same.named.kept all
+pub same-filters : (m : Named) (kept : List (Option (List ℕ))) (a b : Image) → Same m a b → AllByRecursion (KeepsFilter m.geometry kept a) (inner_of m) → AllByRecursion (KeepsFilter m.geometry kept b) (inner_of m)
+same-filters m kept a b same all = filters-same m.geometry kept a b (inner_of m) (inner-named (SameExtent m.geometry a b) m.geometry.levels m.manifest.trie same.named.kept) all
 
 -- ---- where it comes from
 
 -- each number of a list is in a greater one
-within_all : (P : ℕ → Type 0) (all xs : List ℕ) → ((x : ℕ) → is_in x all ≡ true → P x) → ((x : ℕ) → is_in x xs ≡ true → is_in x all ≡ true) → AllByRecursion P xs
+pub within_all : (P : ℕ → Type 0) (all xs : List ℕ) → ((x : ℕ) → is_in x all ≡ true → P x) → ((x : ℕ) → is_in x xs ≡ true → is_in x all ≡ true) → AllByRecursion P xs
 within_all P all [] each sub = tt
 within_all P all (x ∷ xs) each sub = (each x (sub x (rw (here x xs) refl)), within_all P all xs each (λ y there. sub y (later y x xs there)))
   where

@@ -4,7 +4,7 @@ use Rattle.lt_terms.specs.Items.{Item, is_key, is_valid, put_of, delete_of}
 use Rattle.lt_image.specs.Standing.{after_writes}
 use Rattle.lt_language.specs.Commands as commands
 use Rattle.lt_language.specs.Commands.{Command}
-use Rattle.lt_language.specs.Machine.{State, Step, found}
+use Rattle.lt_language.specs.Machine.{State, Step}
 use Rattle.lt_language.specs.Replies as replies
 use Rattle.lt_language.specs.Replies.{Reply}
 use Rattle.lt_store.specs.declared.acting.EventView.{EventView}
@@ -17,10 +17,10 @@ use Rattle.lt_store.specs.declared.writing.Taken.TheVariants as taken
 use Rattle.lt_htable.specs.declared.faults.LookFault.{LookFault}
 use Rattle.lt_htable.specs.declared.faults.LookFault.TheVariants.{Damaged}
 use Rattle.lt_format.specs.Snapshot.{Named}
-use Rattle.lt_tables.specs.Table.{value_of}
 use Rattle.lt_terms.specs.Bytes.{Image}
 use Rattle.lt_store.specs.Promise.{IsReplyTo, StopsGet, RepliesSeen}
-use Rattle.lt_store.specs.Getting.{KeepsRest, asked}
+use Rattle.lt_search.specs.Found.{KeepsRest}
+use Rattle.lt_store.specs.Getting.{most_reads_of}
 use Rattle.lt_store.specs.Open.{StoreView, extents_of, state_of}
 use Rattle.lt_store.specs.Taking.{accepted_by}
 
@@ -90,10 +90,10 @@ abbrev pub KeepsOut : Result Outcome WriteFault → List ℕ → List ℕ → Ty
 KeepsOut (Ok (outcomes.Value n)) old new = KeepsRest (Some n) old new
 KeepsOut result old new = new ≡ old
 
--- how many tables an event asks at most
-abbrev pub asked_by : StoreView → EventView → ℕ
-asked_by v (events.Get key) = asked v key.now
-asked_by v event = 0
+-- how many blocks an event that writes no item reads at most, whatever the device tells
+abbrev pub most_reads_by : StoreView → EventView → ℕ
+most_reads_by v (events.Get key) = most_reads_of v key.now
+most_reads_by v event = 0
 
 -- what a get's event answers, where the key is seen like this: the reply, or the block that spells no bucket,
 -- unless the device failed

@@ -1,11 +1,12 @@
 -- Tables that are written into extents, and the filters of them that are kept.
-use Rattle.std.specs.Prelude.{◌≡◌, ℕ, ◌+◌, ◌<◌, ◌≤◌, List, Option, Some, None, slice_index_or, IsTrue}
+use Rattle.std.specs.Prelude.{ℕ, ◌+◌, ◌<◌, ◌≤◌, List, Option, IsTrue}
 use Rattle.lt_terms.specs.Bytes.{Image, is_in}
 use Rattle.lt_terms.specs.Items.{Item}
 use Rattle.lt_tables.specs.Table.{IsPlaced}
 use Rattle.lt_format.specs.declared.geometry.Geometry.{Geometry}
 use Rattle.lt_format.specs.Layout.{extent_block, extent_blocks}
 use Rattle.lt_image.specs.Versions.{extent_in}
+use Rattle.lt_search.specs.Kept.{KeepsFilter}
 
 -- the block is one of these extents'
 pub record InExtents (g : Geometry) (numbers : List ℕ) (n : ℕ) : Type 0 where
@@ -13,10 +14,6 @@ pub record InExtents (g : Geometry) (numbers : List ℕ) (n : ℕ) : Type 0 wher
   pub among : IsTrue (is_in number numbers)
   pub from : extent_block g number ≤ n
   pub to : n < extent_block g number + extent_blocks
-
--- the filter block of an extent is kept
-abbrev pub KeepsFilter : Geometry → List (Option (List ℕ)) → Image → ℕ → Type 0
-KeepsFilter g kept image x = slice_index_or kept x None ≡ Some (extent_in g image x 64)
 
 -- the extent holds the table of these items, and its filter block is kept
 pub record HasTable (g : Geometry) (kept : List (Option (List ℕ))) (image : Image) (x : ℕ)

@@ -19,10 +19,13 @@ use Rattle.lt_store.specs.Committing.{StandsForEither}
 use Rattle.lt_store.specs.Flushing.{HasCommitted, IsFlushed, IsPrepared, Stays, StaysDown}
 use Rattle.lt_store.specs.Going.{Goes, Survives}
 use Rattle.lt_store.specs.Open.{IsOpen, SameRegions, state_of}
-use Rattle.lt_store.specs.Promise.{IsRooted}
 use Rattle.lt_store.specs.Taking.{IsFull, accepted_by}
 use Rattle.lt_store.specs.View.{view_of}
-use Rattle.lt_store.specs.Writing.{WhileRooted, Writes}
+use Rattle.lt_store.specs.Writing.{InPlace, Writes}
+
+-- neither the store nor its device has changed
+abbrev pub Unchanged : {T : Type 0} → Store → Store → T → T → Type 0
+Unchanged s t old new = (view_of t ≡ view_of s) × (new ≡ old)
 
 -- this holds of each state for which the store is open on the device
 abbrev pub WhereOpen : {T : Type 0} → Ghosts T → Store → T → (State → Type 0) → Type 0
@@ -50,10 +53,6 @@ KeepsDurable D s old new = WhereOpen D s old (λ durable. Stays durable (D.state
 abbrev pub StaysOpen : {T : Type 0} → Ghosts T → Store → Store → T → T → Type 0
 StaysOpen D s t old new = WhereOpen D s old (λ durable. IsOpen (view_of t) durable (D.state new))
 
--- no image since has a table below the root
-abbrev pub StaysRooted : {T : Type 0} → Ghosts T → Store → T → T → Type 0
-StaysRooted D s old new = WhereOpen D s old (λ durable. Leaves IsRooted (D.state old) (D.state new))
-
 -- the store was flushed
 abbrev pub Flushes : {T : Type 0} → Ghosts T → Store → Store → T → T → Type 0
 Flushes D s t old new = WhereOpen D s old (λ _. IsFlushed (view_of s) (view_of t) (D.state new))
@@ -68,9 +67,9 @@ abbrev pub Written : {T : Type 0} → Ghosts T → Item → Store → Store → 
 Written D item s t result old new =
     Writes D item (view_of s) (view_of t) (λ answer. result ≡ Ok answer) (λ fault. IsErrOf result fault) old new
 
--- and while no table lies below the root
-abbrev pub WrittenRooted : {T : Type 0} → Ghosts T → Item → Store → Store → Result Taken WriteFault → T → T → Type 0
-WrittenRooted D item s t result old new = WhileRooted D (Some item) (view_of s) (view_of t)
+-- and as long as no write moves a table down
+abbrev pub WrittenInPlace : {T : Type 0} → Ghosts T → Item → Store → Store → Result Taken WriteFault → T → T → Type 0
+WrittenInPlace D item s t result old new = InPlace D (Some item) (view_of s) (view_of t)
     (λ answer. result ≡ Ok answer) (λ fault. IsErrOf result fault) old new
 
 -- what becomes of an event that writes this item, and answered so
@@ -78,10 +77,10 @@ abbrev pub EventWritten : {T : Type 0} → Ghosts T → Item → Store → Store
 EventWritten D item s t result old new = Writes D item (view_of s) (view_of t)
     (λ answer. result ≡ Ok (outcomes.Taken answer)) (λ fault. IsErrOf result fault) old new
 
--- and of any event while no table lies below the root
-abbrev pub EventRooted : {T : Type 0} → Ghosts T → Option Item → Store → Store → Result Outcome WriteFault → T → T
+-- and of any event as long as no write moves a table down
+abbrev pub EventInPlace : {T : Type 0} → Ghosts T → Option Item → Store → Store → Result Outcome WriteFault → T → T
     → Type 0
-EventRooted D written s t result old new = WhileRooted D written (view_of s) (view_of t)
+EventInPlace D written s t result old new = InPlace D written (view_of s) (view_of t)
     (λ answer. result ≡ Ok (outcomes.Taken answer)) (λ fault. IsErrOf result fault) old new
 
 -- The open group was committed, or had no need to be: on Ok the store went on from what was durable, and else it is
@@ -89,7 +88,6 @@ EventRooted D written s t result old new = WhileRooted D written (view_of s) (vi
 pub record Commits {T A E : Type 0} (D : Ghosts T) (s t : Store) (result : Result A E) (old new : T) : Type 0 where
   pub goes : OnOk result (GoesOn D s [] t old new)
   pub whole : KeepsGroup D s old new
-  pub rooted : StaysRooted D s old new
   pub up : OnOk result (t.is_up ≡ true)
   pub err : OnErr result (t.is_up ≡ false)
   pub calls : OnlyWrites D (IsErr result) old new
@@ -99,7 +97,6 @@ pub record Commits {T A E : Type 0} (D : Ghosts T) (s t : Store) (result : Resul
 pub record LivesOn {T A : Type 0} (D : Ghosts T) (s t : Store) (result : Result A FlushFault)
     (old new : T) : Type 0 where
   pub stays : KeepsDurable D s old new
-  pub rooted : StaysRooted D s old new
   pub opened : t.is_up ≡ true → StaysOpen D s t old new
   pub up : (t.is_up ≡ false) ↔ IsErrOf result Device
   pub writes : t.writes ≡ s.writes
@@ -109,7 +106,6 @@ pub record LivesOn {T A : Type 0} (D : Ghosts T) (s t : Store) (result : Result 
 -- The manifest was committed with tables in these extents, or not; the store is down.
 pub record Installs {T A : Type 0} (D : Ghosts T) (s t : Store) (numbers : List ℕ) (result : Result A FlushFault)
     (old new : T) : Type 0 where
-  pub rooted : StaysRooted D s old new
   pub committed : OnOk result (HasCommitted (view_of s) (view_of t) numbers)
   pub stays_down : StaysDown (view_of s) (view_of t)
   pub refused : t.refused ≡ s.refused
@@ -123,5 +119,5 @@ pub record TakesItem {T : Type 0} (D : Ghosts T) (item : Item) (s t : Store) (re
   pub full : (needed free : ℕ) → result ≡ Ok (answers.Full needed free) → IsFull (view_of t) needed free
   pub whole : KeepsGroup D s old new
   pub writes : Written D item s t result old new
-  pub while_rooted : WrittenRooted D item s t result old new
+  pub in_place : WrittenInPlace D item s t result old new
   pub up : (t.is_up ≡ false) ↔ IsErrOf result faults.Device

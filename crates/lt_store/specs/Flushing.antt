@@ -18,7 +18,7 @@ use Rattle.lt_redo.specs.LogState.{LogState, idle_log, other_area}
 use Rattle.lt_redo.specs.Slots.{HasLog}
 use Rattle.lt_image.specs.After.{PlacedIn}
 use Rattle.lt_image.specs.Standing.{Stands}
-use Rattle.lt_store.specs.Building.{KeepsFilter}
+use Rattle.lt_search.specs.Kept.{KeepsFilter}
 use Rattle.lt_manifest.specs.Promise as opened
 use Rattle.lt_store.specs.Kept.{IsKept}
 use Rattle.lt_store.specs.Open.{StoreView}

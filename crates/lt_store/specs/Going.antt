@@ -22,6 +22,11 @@ pub record Goes (v : StoreView) (accepted : List Item) (w : StoreView) (durable 
   pub opened : IsOpen w (after_writes durable (take sure (v.log.pending ++ accepted))) new
   pub survives : Survives v accepted durable old new
 
+-- what is durable after a call that went on
+abbrev pub durable_after : {v w : StoreView} {accepted : List Item} {durable : State} {old new : told.State}
+    → Goes v accepted w durable old new → State
+durable_after {v} {w} {accepted} {durable} g = after_writes durable (take g.sure (v.log.pending ++ accepted))
+
 -- the store with one write more, which is pending
 abbrev pub appended : StoreView → Item → StoreView
 appended v item = record v {

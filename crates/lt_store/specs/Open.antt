@@ -7,12 +7,11 @@ use Rattle.lt_language.specs.Machine.{State}
 use Rattle.lt_format.specs.Layout.{blocks_needed}
 use Rattle.lt_format.specs.Log.{items_in}
 use Rattle.lt_format.specs.Snapshot.{Named}
-use Rattle.lt_format.specs.Trie.{Trie, root, node_at}
 use Rattle.lt_redo.specs.LogState.{LogState}
 use Rattle.lt_redo.specs.Slots.{HasLog}
 use Rattle.lt_image.specs.Standing.{after_writes}
-use Rattle.lt_store.specs.Building.{KeepsFilter}
-use Rattle.lt_store.specs.Promise.{AtRest, IsRootOnly, root_pile}
+use Rattle.lt_search.specs.Kept.{KeepsFilter, inner_tables}
+use Rattle.lt_store.specs.Promise.{AtRest}
 
 -- a store as its calls see it; `kept` has the filter blocks of tables, by extent
 pub record StoreView : Type 0 where
@@ -24,9 +23,12 @@ pub record StoreView : Type 0 where
   pub kept : List (Option (List ℕ))
   pub writes : ℕ
 
+-- the tables of the inner nodes that a manifest names
+abbrev pub inner_of : Named → List ℕ
+inner_of n = inner_tables n.geometry.levels n.manifest.trie
+
 -- The store is open on a device at rest for the state `durable`, which its manifest and the groups of its log
--- make; the memory table has their items and the pending ones, and the filters in memory are those of the
--- root's tables.
+-- make; the memory table has their items and the pending ones, and the filters of the inner tables are kept.
 pub record IsOpen (v : StoreView) (durable : State) (device : told.State) : Type 0 where
   pub rest : AtRest durable device
   pub named : rest.named ≡ v.named
@@ -34,8 +36,7 @@ pub record IsOpen (v : StoreView) (durable : State) (device : told.State) : Type
   pub log : HasLog v.named.geometry v.log.area v.log.writes groups rest.image
   pub slots : v.log.slots ≡ length groups
   pub memory : v.memory ≡ items_in groups ++ v.log.pending
-  pub filters : AllByRecursion (KeepsFilter v.named.geometry v.kept rest.image) (root_pile v.named.manifest.trie)
-  pub root_only : IsRootOnly v.named.manifest.trie
+  pub filters : AllByRecursion (KeepsFilter v.named.geometry v.kept rest.image) (inner_of v.named)
 
 -- the state that the store answers for: the durable one, and the pending writes
 abbrev pub state_of : StoreView → State → State
@@ -45,9 +46,13 @@ state_of v durable = after_writes durable v.log.pending
 abbrev pub extents_of : StoreView → ℕ
 extents_of v = v.named.manifest.header.extents
 
+-- how many blocks the store of a manifest uses
+abbrev pub blocks_in : Named → ℕ
+blocks_in n = blocks_needed n.geometry n.manifest.header.extents
+
 -- how many blocks the store uses
 abbrev pub blocks_of : StoreView → ℕ
-blocks_of v = blocks_needed v.named.geometry (extents_of v)
+blocks_of v = blocks_in v.named
 
 -- both stores have the same geometry and the same number of extents
 pub record SameRegions (v w : StoreView) : Type 0 where

@@ -1,8 +1,7 @@
 -- What a reader must believe of the store: devices at rest, devices without a store and with a fresh one, blocks that
 -- do not stand, and which replies a command may have.
-use Rattle.std.specs.Prelude.{◌≡◌, ◌≢◌, ℕ, ◌+◌, ◌<◌, List, Option, Some, None, Err, IsTrue, Bool, [], ◌∷◌, Result, Ok}
-use Rattle.std.specs.Prelude.{if◌then◌else◌}
-use Rattle.std.specs.Option.{ForSome, option_and_then}
+use Rattle.std.specs.Prelude.{◌≡◌, ◌≢◌, ℕ, ◌+◌, ◌<◌, List, Option, Some, None, Err, IsTrue, Result, Ok}
+use Rattle.std.specs.Option.{ForSome}
 use Rattle.lt_terms.specs.Bytes.{Image, block_at, zero_block, is_in}
 use Rattle.lt_device.specs.State as told
 use Rattle.lt_device.specs.State.{SameOutside}
@@ -12,20 +11,19 @@ use Rattle.lt_language.specs.Commands.{Command}
 use Rattle.lt_language.specs.Machine.{State, nothing_yet, found}
 use Rattle.lt_language.specs.Replies as replies
 use Rattle.lt_language.specs.Replies.{Reply}
-use Rattle.lt_tables.specs.Bucket.{bucket_of, look_on}
+use Rattle.lt_tables.specs.Bucket.{bucket_of}
 use Rattle.lt_format.specs.declared.geometry.Geometry.{Geometry}
 use Rattle.lt_format.specs.Layout.{extent_block}
 use Rattle.lt_format.specs.Snapshot.{Named}
-use Rattle.lt_format.specs.Trie.{Trie, node_at, path, root}
-use Rattle.lt_manifest.specs.Promise.{Names, fresh}
-use Rattle.lt_image.specs.Versions.{has_only_root, open_image, Opened, log_items, extent_in}
+use Rattle.lt_format.specs.Trie.{node_at, path}
+use Rattle.lt_format.specs.Snapshot.{Names, fresh}
+use Rattle.lt_image.specs.Versions.{open_image, Opened, log_items, stops}
 use Rattle.lt_image.specs.Standing.{Stands, is_free_block}
 use Rattle.lt_terms.specs.Items.{Item}
-use Rattle.lt_terms.specs.Hashes.{home_column}
-use Rattle.lt_tables.specs.Filter.{covers}
 use Rattle.lt_tables.specs.Table.{newest_of, value_of}
 use Rattle.lt_htable.specs.declared.faults.LookFault.{LookFault}
-use Rattle.lt_htable.specs.Reading.{at_home, target_of}
+use Rattle.lt_search.specs.Seen.{is_asked_on}
+use Rattle.lt_search.specs.Seen.{before_older, seen_along}
 
 -- A device that tells its blocks and what a crash may leave: each image that it may leave stands for this
 -- state, and they are what the device reads as but for blocks of extents that the manifest does not name.
@@ -37,21 +35,6 @@ pub record AtRest (s : State) (device : told.State) : Type 0 where
   pub named : Named
   pub names : Names named image
   pub agree : (left : Image) → MayLeave device left → SameOutside (λ n. IsTrue (is_free_block named n)) image left
-
--- no node but the root has tables
-pub record IsRootOnly (trie : Trie) : Type 0 where
-  pub only : IsTrue (has_only_root trie)
-
--- no node but the root of the image's manifest has tables
-pub record IsRooted (image : Image) : Type 0 where
-  pub named : Named
-  pub names : Names named image
-  pub root_only : IsRootOnly named.manifest.trie
-
--- at rest, and no node but the root has tables
-pub record Rests (s : State) (device : told.State) : Type 0 where
-  pub rest : AtRest s device
-  pub root_only : IsRootOnly rest.named.manifest.trie
 
 -- where the device tells what it reads, nothing stands on block 0
 abbrev pub IsVacant : told.State → Type 0
@@ -109,44 +92,13 @@ IsReplyTo (commands.get key) reply = IsGetReply reply
 IsReplyTo commands.stat reply = IsStatReply reply
 IsReplyTo (commands.bad kind) reply = reply ≡ replies.bad kind
 
--- the tables of the root
-abbrev pub root_pile : Trie → List ℕ
-root_pile trie = (node_at trie root).tables
-
--- the filter of the table in an extent covers the key, as the image has it
-abbrev pub is_covered : Geometry → Image → List ℕ → ℕ → Bool
-is_covered g image key x = covers (extent_in g image x 64) (home_column key) key
-
--- what the page of a key's home bucket, and where it sends the key that of the target, answer on it; the
--- block, where such a page spells no bucket
-abbrev pub seen_in : Image → ℕ → List ℕ → Result (Option Item) LookFault
-seen_in image first key =
-    let home = look_on (block_at image (first + home_column key)) key in
-    at_home first (home_column key) home
-    (option_and_then (λ column. look_on (block_at image (first + column)) key) (target_of home))
-
--- the newer answer, where it is an item or a block; else the older one
-abbrev pub before_older : Result (Option Item) LookFault → Result (Option Item) LookFault
-    → Result (Option Item) LookFault
-before_older (Ok None) older = older
-before_older newer older = newer
-
--- what is seen of a key in one table: none where the table does not pass the test, as its filter does not
--- cover the key
-abbrev pub seen_at : Geometry → (ℕ → Bool) → Image → List ℕ → ℕ → Result (Option Item) LookFault
-seen_at g holds image key x = if holds x then seen_in image (extent_block g x) key else Ok None
-
--- what is seen of a key in the tables of a pile that pass the test: the newest that has an item of it
--- decides, or one whose page spells no bucket
-abbrev pub seen : Geometry → (ℕ → Bool) → Image → List ℕ → List ℕ → Result (Option Item) LookFault
-seen g holds image key [] = Ok None
-seen g holds image key (x ∷ newer) = before_older (seen g holds image key newer) (seen_at g holds image key x)
-
--- what is seen of a key on an image as it opens: its log is newer than the root's tables
+-- what is seen of a key on an image as it opens: its log is newer than the tables on the key's path
 abbrev pub seen_on : Opened → Image → List ℕ → Result (Option Item) LookFault
-seen_on o image key = before_older (Ok (newest_of key (log_items o)))
-    (seen o.named.geometry (is_covered o.named.geometry image key) image key
-    (root_pile o.named.manifest.trie))
+seen_on o image key =
+    let g = o.named.geometry in
+    let trie = o.named.manifest.trie in
+    before_older (Ok (newest_of key (log_items o)))
+    (seen_along (is_asked_on g image trie key) g image key (stops g.levels trie key))
 
 -- a get's reply, where the key is seen like this: the value of the item, or none; a block that spells no
 -- bucket has no reply

@@ -1,8 +1,7 @@
 -- What opening a store reads of an image, and where it may find damage.
-use Rattle.std.specs.Prelude.{◌≡◌, ℕ, ◌+◌, ◌<◌, ◌≤◌, true, false, List, Option, None, Result, length, IsTrue}
-use Rattle.std.specs.Prelude.{slice_index_or, Ok}
-use Rattle.std.specs.List.{AllByRecursion, list_all}
-use Rattle.lt_terms.specs.Bytes.{Image, is_in}
+use Rattle.std.specs.Prelude.{◌≡◌, ℕ, ◌+◌, ◌<◌, ◌≤◌, true, List, Option, Result, length, IsTrue, Ok}
+use Rattle.std.specs.List.{list_all}
+use Rattle.lt_terms.specs.Bytes.{Image}
 use Rattle.lt_terms.specs.Items.{Item, is_valid}
 use Rattle.lt_alloc.specs.Extents.{AreTaken}
 use Rattle.lt_format.specs.declared.geometry.Geometry.{Geometry}
@@ -13,9 +12,8 @@ use Rattle.lt_format.specs.Trie.{named}
 use Rattle.lt_image.specs.Versions.{Opened, open_image, log_items, number_of}
 use Rattle.lt_redo.specs.LogState.{LogState, idle_log}
 use Rattle.lt_redo.specs.Opening.{HasItems}
-use Rattle.lt_store.specs.Building.{KeepsFilter}
-use Rattle.lt_store.specs.Open.{StoreView}
-use Rattle.lt_store.specs.Promise.{root_pile}
+use Rattle.lt_search.specs.Kept.{KeepsExactly}
+use Rattle.lt_store.specs.Open.{StoreView, inner_of}
 
 -- the log that a manifest names, with this many groups and nothing pending
 abbrev pub log_at : Named → ℕ → LogState
@@ -39,14 +37,8 @@ abbrev pub HasItemsOf : Named → ℕ → List Item → Image → Type 0
 HasItemsOf n slots items image =
     HasItems n.geometry n.manifest.header.log_area n.manifest.header.writes slots items image
 
--- Exactly the filter blocks of these tables are kept.
-pub record KeepsFilters (g : Geometry) (kept : List (Option (List ℕ))) (tables : List ℕ)
-    (image : Image) : Type 0 where
-  pub each : AllByRecursion (KeepsFilter g kept image) tables
-  pub others : (x : ℕ) → is_in x tables ≡ false → slice_index_or kept x None ≡ None
-
 -- The store is what the image opens as: its manifest, its log with nothing pending, the items of the log, the
--- extents that are named, and the filters of the root's tables.
+-- extents that are named, and the filters of the inner tables.
 pub record Reads (v : StoreView) (image : Image) : Type 0 where
   pub opened : Opened
   pub opens : open_image image ≡ Ok opened
@@ -55,7 +47,7 @@ pub record Reads (v : StoreView) (image : Image) : Type 0 where
   pub memory : v.memory ≡ log_items opened
   pub writes : v.writes ≡ number_of opened
   pub taken_named : AreTaken opened.named.manifest.header.extents (named opened.named.manifest.trie) v.taken
-  pub filters : KeepsFilters opened.named.geometry v.kept (root_pile opened.named.manifest.trie) image
+  pub filters : KeepsExactly opened.named.geometry v.kept (inner_of opened.named) image
 
 -- the block lies below all extents of some geometry
 pub record IsBelowExtents (block : ℕ) : Type 0 where

@@ -9,7 +9,7 @@ use Rattle.lt_tables.specs.Cut.{table_total}
 use Rattle.lt_tables.specs.Table.{newest}
 use Rattle.lt_alloc.specs.Extents.{free_count}
 use Rattle.lt_format.specs.Log.{group_room}
-use Rattle.lt_image.specs.Counts.{IsFullImage}
+use Rattle.lt_image.specs.Pressure.{IsFullImage}
 use Rattle.lt_store.specs.declared.writing.Taken.{Taken}
 use Rattle.lt_store.specs.declared.writing.Taken.TheVariants as taken
 use Rattle.lt_store.specs.Committing.{committed}

@@ -11,6 +11,6 @@ view_of s = record {
   log = s.log;
   memory = s.memory;
   taken = s.extents;
-  kept = s.filters.items;
+  kept = s.filters;
   writes = s.writes;
 }

@@ -3,7 +3,6 @@ use Rattle.std.specs.Prelude.{◌≡◌, ◌≢◌, ℕ, ◌+◌, ◌≤◌, tru
 use Rattle.lt_terms.specs.Causes.{Rose}
 use Rattle.lt_terms.specs.Items.{Item, item_cost, total_cost}
 use Rattle.lt_device.specs.declared.device.Device.{Ghosts}
-use Rattle.lt_device.specs.Moments.{Leaves}
 use Rattle.lt_format.specs.Log.{group_room}
 use Rattle.lt_language.specs.Machine.{State, most_writes}
 use Rattle.lt_store.specs.declared.faults.WriteFault.{WriteFault}
@@ -13,7 +12,6 @@ use Rattle.lt_store.specs.declared.writing.Taken.TheVariants.{Ok, Full, Limit}
 use Rattle.lt_store.specs.Flushing.{IsFlushed}
 use Rattle.lt_store.specs.Going.{Goes, appended}
 use Rattle.lt_store.specs.Open.{IsOpen, SameRegions, StoreView}
-use Rattle.lt_store.specs.Promise.{IsRooted}
 use Rattle.lt_store.specs.Taking.{LeavesFull, accepted_by, is_due, readied}
 
 -- The item was put or deleted in the store `v`, which is `w` now; `answered` and `failed` say what the call
@@ -42,13 +40,11 @@ pub record Writes {T : Type 0} (D : Ghosts T) (item : Item) (v w : StoreView) (a
   pub full_images : (needed free : ℕ) → answered (Full needed free) → (durable : State)
       → IsOpen v durable (D.state old) → LeavesFull v (D.state new) needed free
 
--- What holds of a call only while no table lies below the root, since a write never moves tables down then;
--- `written` is the item that it writes, if any. A flush adds tables to the root and changes nothing else of
--- the trie, a write that is refused for want of extents only commits the open group, and a write reads no
--- block.
-pub record WhileRooted {T : Type 0} (D : Ghosts T) (written : Option Item) (v w : StoreView)
+-- What holds of a call as long as no write moves a table down the trie; `written` is the item that it writes, if
+-- any. A flush adds tables to the root and changes nothing else of the trie, a write that is refused for want of
+-- extents only commits the open group, and a write reads no block.
+pub record InPlace {T : Type 0} (D : Ghosts T) (written : Option Item) (v w : StoreView)
     (answered : Taken → Type 0) (failed : WriteFault → Type 0) (old new : T) : Type 0 where
-  pub rooted : (durable : State) → IsOpen v durable (D.state old) → Leaves IsRooted (D.state old) (D.state new)
   pub flushed : IfSome written (λ item. is_due (readied v (item_cost item)) ≡ true → answered Ok
       → (durable : State) → IsOpen v durable (D.state old)
       → (flushed : StoreView) × IsFlushed (readied v (item_cost item)) flushed (D.state new)

@@ -1,21 +1,21 @@
 //! The calls of a store as events.
 
-ghost use Rattle.std.specs.Prelude.{IfSome, ◌≡◌, ◌↔◌, ℕ, List, ◌*◌, ◌≤◌, true, false, [], Ok, Some, IfOk, IsErrOf};
+ghost use Rattle.std.specs.Prelude.{IfSome, ◌≡◌, ◌↔◌, ℕ, List, ◌≤◌, true, false, [], Ok, Some, IfOk, IsErrOf};
 ghost use Rattle.std.specs.Prelude.{IsSome, IsTrue, OnErr, OnOk};
 ghost use Rattle.lt_terms.specs.Bytes.{Image};
 ghost use Rattle.lt_terms.specs.Causes.{Rose};
 ghost use Rattle.lt_device.specs.Reads.{CountsAtMost};
 ghost use Rattle.lt_language.specs.Commands as commands;
 ghost use Rattle.lt_language.specs.Machine.{most_writes};
-ghost use Rattle.lt_store.specs.Acting.{IsStopped, KeepsOut, MayAct, TellsSeen, accepted_as, asked_by, command_of};
-ghost use Rattle.lt_store.specs.Acting.{only_asks, reply_of, write_of, IsKind, IsStepOf};
+ghost use Rattle.lt_store.specs.Acting.{IsStopped, KeepsOut, MayAct, TellsSeen, accepted_as, command_of};
+ghost use Rattle.lt_store.specs.Acting.{most_reads_by, only_asks, reply_of, write_of, IsKind, IsStepOf};
 ghost use Rattle.lt_store.specs.Committing.{committed};
-ghost use Rattle.lt_store.specs.Counts.{stat_of, TellsImages};
-ghost use Rattle.lt_store.specs.Getting.{seen_of};
+ghost use Rattle.lt_store.specs.Counts.{Tells};
+ghost use Rattle.lt_store.specs.Getting.{KeepsBound, seen_of};
 ghost use Rattle.lt_store.specs.Open.{SameRegions, blocks_of};
 ghost use Rattle.lt_store.specs.Taking.{IsFull};
 ghost use Rattle.lt_store.specs.View.{view_of};
-ghost use Rattle.lt_store.specs.Calls.{EventRooted, EventWritten, GoesOn, KeepsGroup, LosesNothing, WhereOpen};
+ghost use Rattle.lt_store.specs.Calls.{EventInPlace, EventWritten, GoesOn, KeepsGroup, LosesNothing, WhereOpen};
 
 use crate::counts::Stat;
 use crate::faults::WriteFault;
@@ -92,16 +92,13 @@ impl Store {
         // A put or a delete.
         ensures writes { IfSome (write_of event.entry) (λ item.
             EventWritten D.Device item self.old self.new result device.old device.new) }
-        ensures while_rooted { EventRooted D.Device (write_of event.entry) self.old self.new result
+        ensures in_place { EventInPlace D.Device (write_of event.entry) self.old self.new result
             device.old device.new }
 
         ensures idle { command_of event.entry ≡ None → self.old.log.pending ≡ []
             → (result ≡ Ok Outcome.Committed) × (device.new ≡ device.old) }
-        // The numbers of the store and its device at this moment, and those of each image that a crash may leave.
         ensures stat { (s : Stat) → result ≡ Ok (Outcome.Stat s)
-            → s ≡ stat_of (view_of self.old) (D.reads device.old) }
-        ensures stat_images { (s : Stat) → result ≡ Ok (Outcome.Stat s)
-            → TellsImages D.Device (view_of self.old) s device.old }
+            → Tells D.Device (view_of self.old) s device.old }
         ensures page { KeepsOut result out.old out.new }
 
         // Whatever the blocks hold, a get answers what it sees of the key, or the block that spells no bucket.
@@ -124,8 +121,11 @@ impl Store {
             → SameRegions (view_of self.old) (view_of self.new) }
         ensures size { D.blocks device.new ≡ D.blocks device.old }
         ensures count { write_of event.entry ≡ None
-            → CountsAtMost (2 * asked_by (view_of self.old) event.entry) (D.reads device.old)
+            → CountsAtMost (most_reads_by (view_of self.old) event.entry) (D.reads device.old)
             (D.reads device.new) }
+        ensures bound { (key : List ℕ) → command_of event.entry ≡ Some (commands.get key)
+            → WhereOpen D.Device self.old device.old
+            (λ _. KeepsBound D.Device self.old.log.pending key device.old device.new) }
     {
         match event {
             EventView::Put { key, value } => {

@@ -11,11 +11,11 @@ ghost use Rattle.lt_format.specs.Trie.{all_distinct, all_below};
 ghost use Rattle.lt_htable.specs.Cutting.{IsPart};
 ghost use Rattle.lt_store.specs.Building.{InExtents, HasTable};
 
-use lt_bloom::FilterPage;
 use lt_bucket::Item;
 use lt_device::Device;
 use lt_format::Geometry;
 use lt_htable::{BuildFault, build};
+use lt_search::InnerFilters;
 use std::alloc::Global;
 
 /// Writes a table into each of these extents, and keeps its filters. It does not sync.
@@ -25,7 +25,7 @@ pub(super) fn build_tables<D: Device>(
     geometry: &Geometry,
     tables: &[&[Item]],
     numbers: &[u32],
-    filters: &mut [Option<FilterPage>],
+    filters: &mut InnerFilters,
 ) -> Result<(), BuildFault>
     requires parts { All (λ table. IsPart table.now) tables.now }
     requires same_count { length tables.now ≡ length numbers.now }
@@ -38,6 +38,7 @@ pub(super) fn build_tables<D: Device>(
         (map (λ table. table.now) tables.now)) }
     ensures filters { (x : ℕ) → is_in x numbers.now ≡ false
         → slice_index_or filters.new x None ≡ slice_index_or filters.old x None }
+    ensures room { length filters.new ≡ length filters.old }
 
     // Whatever it answers, it touches no other block.
     ensures confined { ConfinedTo (InExtents geometry.now numbers.now) (D.state device.old)
@@ -48,7 +49,7 @@ pub(super) fn build_tables<D: Device>(
 {
     for (turn, number) in numbers.iter().enumerate() {
         let built = build(alloc, device, geometry.extent(*number), tables[turn])?;
-        filters[*number as usize] = Some(built);
+        filters.keep(*number, built);
     }
     Ok(())
 }

@@ -5,7 +5,7 @@ ghost use Rattle.lt_device.specs.Calls.{OnlyWrites};
 ghost use Rattle.lt_store.specs.Open.{blocks_of};
 ghost use Rattle.lt_store.specs.View.{view_of};
 ghost use Rattle.lt_store.specs.Committing.{committed};
-ghost use Rattle.lt_store.specs.Calls.{GoesOn, KeepsGroup, LosesNothing, StaysRooted};
+ghost use Rattle.lt_store.specs.Calls.{GoesOn, KeepsGroup, LosesNothing};
 
 use crate::store::Store;
 use lt_device::Device;
@@ -29,7 +29,6 @@ impl Store {
         // The open group is there as a whole, or not at all.
         ensures whole { KeepsGroup D.Device self.old device.old device.new }
 
-        ensures rooted { StaysRooted D.Device self.old device.old device.new }
         ensures calls { OnlyWrites D.Device (IsErr result) device.old device.new }
     {
         match self.log.commit(device) {

@@ -1,7 +1,7 @@
 //! What a store tells of itself in numbers.
 
 ghost use Rattle.std.specs.Prelude.{◌≡◌, ◌+◌, ◌≤◌, true};
-ghost use Rattle.lt_store.specs.Counts.{stat_of, TellsImages};
+ghost use Rattle.lt_store.specs.Counts.{Tells};
 ghost use Rattle.lt_store.specs.View.{view_of};
 
 use crate::store::Store;
@@ -21,8 +21,7 @@ impl Store {
     /// The numbers of the store and of its device at this moment.
     pub fn stat<D: Device>(&self, device: &D) -> Stat
         requires { self.now.is_up ≡ true }
-        ensures stat { result ≡ stat_of (view_of self.now) (D.reads device.now) }
-        ensures told { TellsImages D.Device (view_of self.now) result device.now }
+        ensures told { Tells D.Device (view_of self.now) result device.now }
         ensures within { result.tables + result.free ≤ self.now.manifest.manifest.header.extents }
     {
         Stat {

@@ -12,7 +12,7 @@ ghost use Rattle.lt_store.specs.Flushing.{HasTables, IsShort, Stays, flushed, Is
 ghost use Rattle.lt_alloc.specs.declared.extents.Short.{Short};
 ghost use Rattle.lt_store.specs.Open.{IsOpen, blocks_of};
 ghost use Rattle.lt_store.specs.View.{view_of};
-ghost use Rattle.lt_store.specs.Calls.{Flushes, Installs, KeepsDurable, LivesOn, StaysOpen, WhereOpen, WherePrepared};
+ghost use Rattle.lt_store.specs.Calls.{Flushes, Installs, KeepsDurable, LivesOn, StaysOpen, Unchanged, WhereOpen, WherePrepared};
 
 use crate::building::build_tables;
 use crate::faults::FlushFault;
@@ -137,10 +137,10 @@ impl Store {
         ensures tables { OnOk result (WherePrepared D.Device self.old numbers.now device.old
             (λ _. HasTables (view_of self.old) numbers.now (D.state device.new))) }
         ensures unchanged { IsErrOf result FlushFault.NoMemory
-            → (view_of self.new ≡ view_of self.old) × (device.new ≡ device.old) }
+            → Unchanged self.old self.new device.old device.new }
         ensures installs { Installs D.Device self.old self.new numbers.now result device.old
             device.new }
-        ensures filters { self.new.filters.items ≡ self.old.filters.items }
+        ensures filters { self.new.filters ≡ self.old.filters }
     {
         let change = Change::Flush {
             tables: Numbers::of(Vec::from_slice(alloc, numbers)?),

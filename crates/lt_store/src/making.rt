@@ -6,9 +6,9 @@ ghost use Rattle.lt_terms.specs.Bytes.{block_at, zero_block};
 ghost use Rattle.lt_device.specs.Calls.{OnlyReads, OnlyWrites, ReadsAndWrites};
 ghost use Rattle.lt_device.specs.Moments.{ConfinedTo};
 ghost use Rattle.lt_device.specs.State.{IsFit, synced, written};
-ghost use Rattle.lt_format.specs.Layout.{is_geometry, blocks_needed, superblock};
+ghost use Rattle.lt_format.specs.Layout.{is_geometry, superblock};
 ghost use Rattle.lt_format.specs.Snapshot.{extents_stand};
-ghost use Rattle.lt_store.specs.Making.{InFresh, geometry_of, HasRegions};
+ghost use Rattle.lt_store.specs.Making.{HasRegions, InFresh, blocks_for, geometry_of};
 ghost use Rattle.lt_store.specs.Promise.{IsFresh, IsOccupied, IsVacant};
 
 use super::faults::InitFault;
@@ -40,13 +40,13 @@ pub fn init<D: Device>(
     ensures fresh { OnOk result ((flags : List Bool) → (D.state device.new).unsynced ≡ Some flags
         → IsFresh (geometry_of levels slots) extents (D.state device.new)) }
     ensures vacant { OnOk result (IsVacant (D.state device.old)) }
-    ensures room { OnOk result (blocks_needed (geometry_of levels slots) extents ≤ D.blocks device.old) }
+    ensures room { OnOk result (blocks_for levels slots extents ≤ D.blocks device.old) }
 
-    ensures small { D.blocks device.old < blocks_needed (geometry_of levels slots) extents
-        → IsErrOf result (InitFault.TooSmall (blocks_needed (geometry_of levels slots) extents)
+    ensures small { D.blocks device.old < blocks_for levels slots extents
+        → IsErrOf result (InitFault.TooSmall (blocks_for levels slots extents)
         (D.blocks device.old)) × (device.new ≡ device.old) }
     ensures too_small { (needed has : ℕ) → IsErrOf result (InitFault.TooSmall needed has)
-        → D.blocks device.old < blocks_needed (geometry_of levels slots) extents }
+        → D.blocks device.old < blocks_for levels slots extents }
     ensures occupied { IsErrOf result InitFault.Occupied → IsOccupied (D.state device.old) }
     ensures unwritten { IsErrOf result InitFault.Occupied
         → D.state device.new ≡ D.state device.old }
@@ -96,8 +96,8 @@ fn write_regions<D: Device>(
 ) -> Result<(), CommitFault>
     requires valid { IsTrue (is_geometry geometry.now) }
     requires stands { IsTrue (extents_stand geometry.now (D.blocks device.old) extents) }
-    ensures regions { OnOk result ((flags : List Bool) → (D.state device.new).unsynced ≡ Some flags
-        → HasRegions geometry.now extents (D.state device.new)) }
+    ensures regions { OnOk result (ForSome (D.state device.new).unsynced
+        (λ _. HasRegions geometry.now extents (D.state device.new))) }
     ensures confined { ConfinedTo (InFresh geometry.now) (D.state device.old) (D.state device.new) }
     ensures calls { OnlyWrites D.Device (IsErrOf result CommitFault.Device) device.old device.new }
 {

@@ -1,50 +1,42 @@
-//! Opening a store: its manifest, its log and the filters of the root's tables are read.
+//! Opening a store: its manifest, its log and the filters of the inner tables are read.
 
-ghost use Rattle.std.specs.Prelude.{◌≡◌, ℕ, ◌+◌, ◌*◌, ◌<◌, ◌≤◌, Ok, Err, None, [], true, length, vec_len, IfOk};
-ghost use Rattle.std.specs.Prelude.{IsErrOf, IsTrue, replicate};
+ghost use Rattle.std.specs.Prelude.{◌≡◌, ℕ, ◌+◌, ◌*◌, ◌<◌, ◌≤◌, Ok, Err, [], true, length, IfOk};
+ghost use Rattle.std.specs.Prelude.{IsErrOf, IsTrue};
 ghost use Rattle.std.specs.List.{list_all};
 ghost use Rattle.std.specs.Option.{ForSome};
-ghost use Rattle.lt_terms.specs.Bytes.{block_at};
 ghost use Rattle.lt_terms.specs.Items.{is_valid, total_cost};
 ghost use Rattle.lt_mem.specs.Index.{table_room};
 ghost use Rattle.lt_alloc.specs.Extents.{AreTaken};
 ghost use Rattle.lt_device.specs.Calls.{OnlyReads};
 ghost use Rattle.lt_device.specs.Reads.{CountsAtMost};
 ghost use Rattle.lt_language.specs.Machine.{State};
-ghost use Rattle.lt_format.specs.Layout.{is_geometry, blocks_needed};
+ghost use Rattle.lt_format.specs.Layout.{is_geometry};
 ghost use Rattle.lt_format.specs.Snapshot.{manifest_of, IsManifest};
 ghost use Rattle.lt_format.specs.Trie.{named};
-ghost use Rattle.lt_store.specs.Promise.{StopsOpening, AtRest, Rests, root_pile};
-ghost use Rattle.lt_store.specs.Open.{IsOpen, blocks_of, extents_of};
-ghost use Rattle.lt_store.specs.Reading.{Reads, KeepsFilters, IsBelowExtents, Assembles, IsLogOf, HasItemsOf};
-ghost use Rattle.lt_store.specs.Reading.{groups_of};
+ghost use Rattle.lt_search.specs.Kept.{KeepsExactly};
+ghost use Rattle.lt_store.specs.Promise.{StopsOpening, AtRest};
+ghost use Rattle.lt_store.specs.Open.{IsOpen, blocks_in, blocks_of, extents_of, inner_of};
+ghost use Rattle.lt_store.specs.Reading.{Reads, IsBelowExtents, Assembles, IsLogOf, HasItemsOf, groups_of};
 ghost use Rattle.lt_store.specs.View.{view_of};
 
 use super::store::Store;
 use lt_alloc::Extents;
-use lt_bloom::FilterPage;
 use lt_bucket::Item;
 use lt_device::Device;
-use lt_format::NodeId;
-use lt_htable::{BuildFault, read_filters};
+use lt_htable::BuildFault;
 use lt_manifest::{Manifest, OpenFault, read_geometry};
 use lt_mem::MemTable;
 use lt_page::{NoMemory, Page};
 use lt_redo::Log;
+use lt_search::InnerFilters;
 use std::alloc::Global;
-
-/// The node whose tables a store has.
-const ROOT: NodeId = NodeId {
-    level: 0,
-    number: 0,
-};
 
 impl Store {
     /// Opens the store of a device. It writes nothing.
     ///
     /// `Damaged` is the first block that does not stand, of the superblock, the manifest and the log.
     /// It reads the superblock, the selector and the snapshot of the manifest, the gates and the groups
-    /// of the log, and the filter block of each table of the root.
+    /// of the log, and the filter block of each inner table.
     pub fn open<D: Device>(alloc: Global, device: &mut D) -> Result<Store, OpenFault>
         ensures up { IfOk result (λ store. store.is_up ≡ true) }
         ensures pending { IfOk result (λ store. store.log.pending ≡ []) }
@@ -55,9 +47,9 @@ impl Store {
             (λ store. ForSome (D.state device.old).shown (Reads (view_of store))) }
 
         // On a device at rest it is open for what the device stands for.
-        ensures opened { IfOk result (λ store. (s : State) (r : Rests s (D.state device.old))
+        ensures opened { IfOk result (λ store. (s : State) (r : AtRest s (D.state device.old))
             → IsOpen (view_of store) s (D.state device.new)
-            × (extents_of (view_of store) ≡ r.rest.named.manifest.header.extents)) }
+            × (extents_of (view_of store) ≡ r.named.manifest.header.extents)) }
 
         ensures damaged { (b : ℕ) → IsErrOf result (OpenFault.Damaged b)
             → StopsOpening (D.state device.old) b }
@@ -68,13 +60,12 @@ impl Store {
         ensures calls { OnlyReads D.Device (307 + 2 * 512 + 65536) (IsErrOf result OpenFault.Device)
             device.old device.new }
         ensures count { IfOk result (λ store. CountsAtMost
-            (307 + 2 * store.manifest.geometry.slots
-            + length (root_pile store.manifest.manifest.trie))
+            (307 + 2 * store.manifest.geometry.slots + length (inner_of store.manifest))
             (D.reads device.old) (D.reads device.new)) }
     {
         let manifest = read_manifest(alloc, device)?;
         let (log, items) = read_log(alloc, device, &manifest)?;
-        let filters = root_filters(alloc, device, &manifest)?;
+        let filters = inner_filters(alloc, device, &manifest)?;
         Ok(Store::of(alloc, manifest, log, &items, filters)?)
     }
 
@@ -84,16 +75,16 @@ impl Store {
         manifest: Manifest,
         log: Log,
         items: &[Item],
-        filters: Vec<Option<FilterPage>>,
+        filters: InnerFilters,
     ) -> Result<Store, NoMemory>
         requires log { IsLogOf manifest log items.now }
-        requires filters { vec_len filters ≡ manifest.manifest.header.extents }
+        requires filters { length filters ≡ manifest.manifest.header.extents }
         ensures { IfOk result
-            (λ store. Assembles manifest log items.now filters.items (view_of store)) }
+            (λ store. Assembles manifest log items.now filters (view_of store)) }
     {
         let extents = taken_extents(alloc, &manifest)?;
         let memory = memory_of(alloc, items)?;
-        let page = Page::new(alloc)?;
+        let (column, page) = (Page::new(alloc)?, Page::new(alloc)?);
         let writes = manifest.header().writes + items.len() as u64;
         Ok(Store {
             log,
@@ -101,6 +92,7 @@ impl Store {
             memory,
             extents,
             filters,
+            column,
             page,
             writes,
             refused: None,
@@ -132,8 +124,7 @@ fn read_log<D: Device>(
     device: &mut D,
     manifest: &Manifest,
 ) -> Result<(Log, Vec<Item>), OpenFault>
-    requires room { blocks_needed manifest.now.geometry manifest.now.manifest.header.extents
-        ≤ D.blocks device.old }
+    requires room { blocks_in manifest.now ≤ D.blocks device.old }
     ensures log { IfOk result (λ read. IsLogOf manifest.now read.0 read.1.items) }
     ensures read { IfOk result
         (λ read. ForSome (D.state device.old).shown
@@ -154,57 +145,27 @@ fn read_log<D: Device>(
     )
 }
 
-/// Reads the filters of the root's tables: for each extent of the store those of its table, if it has
-/// one of the root's.
-fn root_filters<D: Device>(
+/// Reads the filters of the inner tables.
+fn inner_filters<D: Device>(
     alloc: Global,
     device: &mut D,
     manifest: &Manifest,
-) -> Result<Vec<Option<FilterPage>>, OpenFault>
-    requires room { blocks_needed manifest.now.geometry manifest.now.manifest.header.extents
-        ≤ D.blocks device.old }
-    ensures len { IfOk result (λ filters. vec_len filters ≡ manifest.now.manifest.header.extents) }
+) -> Result<InnerFilters, OpenFault>
+    requires room { blocks_in manifest.now ≤ D.blocks device.old }
+    ensures len { IfOk result (λ filters. length filters ≡ manifest.now.manifest.header.extents) }
     ensures filters { IfOk result
         (λ filters. ForSome (D.state device.old).shown
-        (KeepsFilters manifest.now.geometry filters.items (root_pile manifest.now.manifest.trie))) }
+        (KeepsExactly manifest.now.geometry filters (inner_of manifest.now))) }
     ensures fault { (b : ℕ) → IsErrOf result (OpenFault.Damaged b) → ⊥ }
-    ensures calls { OnlyReads D.Device (length (root_pile manifest.now.manifest.trie))
+    ensures calls { OnlyReads D.Device (length (inner_of manifest.now))
         (IsErrOf result OpenFault.Device) device.old device.new }
 {
-    let mut filters = no_filters(alloc, manifest.header().extents)?;
-    for number in manifest.trie().pile(ROOT) {
-        let page = read_page(alloc, device, manifest.geometry().extent(*number))?;
-        filters[*number as usize] = Some(page);
-    }
-    Ok(filters)
-}
-
-/// Reads the filters of the table whose extent begins at this block.
-fn read_page<D: Device>(alloc: Global, device: &mut D, first: u64) -> Result<FilterPage, OpenFault>
-    requires { first + 65 ≤ D.blocks device.old }
-    ensures filters { IfOk result
-        (λ filters. ForSome (D.state device.old).shown
-        (λ image. filters ≡ block_at image (first + 64))) }
-    ensures fault { (b : ℕ) → IsErrOf result (OpenFault.Damaged b) → ⊥ }
-    ensures calls { OnlyReads D.Device 1 (IsErrOf result OpenFault.Device) device.old device.new }
-{
-    match read_filters(alloc, device, first) {
+    let extents = manifest.header().extents;
+    match InnerFilters::load(alloc, device, manifest.geometry(), manifest.trie(), extents) {
         Ok(filters) => Ok(filters),
         Err(BuildFault::Device) => Err(OpenFault::Device),
         Err(BuildFault::NoMemory) => Err(OpenFault::NoMemory),
     }
-}
-
-/// No filters, for so many extents.
-fn no_filters(alloc: Global, extents: u32) -> Result<Vec<Option<FilterPage>>, NoMemory>
-    ensures items { IfOk result (λ filters. filters.items ≡ replicate extents None) }
-    ensures len { IfOk result (λ filters. vec_len filters ≡ extents) }
-{
-    let mut filters = Vec::with_capacity(alloc, extents as usize)?;
-    for _ in 0..extents {
-        filters.push(None)?;
-    }
-    Ok(filters)
 }
 
 /// The extents of a manifest, of which those are taken that it names.

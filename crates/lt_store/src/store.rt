@@ -1,16 +1,16 @@
 //! What a store keeps in memory.
 
-ghost use Rattle.std.specs.Prelude.{◌≡◌, Some, true, vec_len};
+ghost use Rattle.std.specs.Prelude.{◌≡◌, Some, true, length};
 ghost use Rattle.lt_alloc.specs.declared.extents.Short.{Short};
 ghost use Rattle.lt_store.specs.Flushing.{IsShort};
 ghost use Rattle.lt_store.specs.Kept.{IsKept};
 
 use lt_alloc::{Extents, Short};
-use lt_bloom::FilterPage;
 use lt_manifest::Manifest;
 use lt_mem::MemTable;
 use lt_page::Page;
 use lt_redo::Log;
+use lt_search::InnerFilters;
 
 /// A store that is open on a device. Its writes since the last flush lie in the log and in the memory
 /// table; those of the open group are not durable yet.
@@ -20,15 +20,16 @@ pub struct Store {
     pub(super) manifest: Manifest,
     pub(super) memory: MemTable,
     pub(super) extents: Extents,
-    /// The filters of the root's tables, by extent.
-    pub(super) filters: Vec<Option<FilterPage>>,
+    pub(super) filters: InnerFilters,
+    /// What a get reads of a group, and of a bucket.
+    pub(super) column: Page,
     pub(super) page: Page,
     /// How many writes were accepted.
     pub(super) writes: u64,
     /// What was short where a flush of the memory table as it stands was refused.
     pub(super) refused: Option<Short>,
     pub(super) is_up: bool,
-    ghost kept: { is_up ≡ true → IsKept manifest log memory extents (vec_len filters) writes },
+    ghost kept: { is_up ≡ true → IsKept manifest log memory extents (length filters) writes },
     ghost refused_is: { is_up ≡ true → (short : Short) → refused ≡ Some short → IsShort memory extents short },
 }
 

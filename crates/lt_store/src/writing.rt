@@ -7,12 +7,12 @@ ghost use Rattle.lt_alloc.specs.declared.extents.Short.{Short};
 ghost use Rattle.lt_item.specs.Views.{item_of};
 ghost use Rattle.lt_language.specs.Machine.{most_writes};
 ghost use Rattle.lt_format.specs.Log.{group_room};
+ghost use Rattle.lt_store.specs.Committing.{Relogs};
 ghost use Rattle.lt_store.specs.Going.{appended};
 ghost use Rattle.lt_store.specs.Open.{blocks_of};
 ghost use Rattle.lt_store.specs.Taking.{accepted_by, is_due, readied, IsFull, LeavesFull};
 ghost use Rattle.lt_store.specs.View.{view_of};
-ghost use Rattle.lt_store.specs.Calls.{Commits, Flushes, GoesOn, KeepsGroup, LivesOn, TakesItem, WhereOpen, Written};
-ghost use Rattle.lt_store.specs.Calls.{WrittenRooted};
+ghost use Rattle.lt_store.specs.Calls.{Commits, Flushes, GoesOn, LivesOn, TakesItem, Unchanged, WhereOpen};
 
 use crate::faults::{FlushFault, WriteFault};
 use crate::store::Store;
@@ -59,15 +59,8 @@ impl Store {
         ensures limit { (result ≡ Ok Taken.Limit) ↔ (self.old.writes ≡ most_writes) }
         ensures full { (needed free : ℕ) → result ≡ Ok (Taken.Full needed free)
             → IsFull (view_of self.new) needed free }
-
-        // Whatever it answers, the open group is there as a whole, or not at all.
-        ensures whole { KeepsGroup D.Device self.old device.old device.new }
-        ensures writes { Written D.Device (put_of key.now value.now) self.old self.new result
+        ensures all { TakesItem D.Device (put_of key.now value.now) self.old self.new result
             device.old device.new }
-        ensures while_rooted { WrittenRooted D.Device (put_of key.now value.now) self.old self.new
-            result device.old device.new }
-
-        ensures up { (self.new.is_up ≡ false) ↔ IsErrOf result WriteFault.Device }
     {
         let item = ItemView {
             kind: Kind::Put,
@@ -92,15 +85,8 @@ impl Store {
         ensures limit { (result ≡ Ok Taken.Limit) ↔ (self.old.writes ≡ most_writes) }
         ensures full { (needed free : ℕ) → result ≡ Ok (Taken.Full needed free)
             → IsFull (view_of self.new) needed free }
-
-        // Whatever it answers, the open group is there as a whole, or not at all.
-        ensures whole { KeepsGroup D.Device self.old device.old device.new }
-        ensures writes { Written D.Device (delete_of key.now) self.old self.new result
+        ensures all { TakesItem D.Device (delete_of key.now) self.old self.new result
             device.old device.new }
-        ensures while_rooted { WrittenRooted D.Device (delete_of key.now) self.old self.new result
-            device.old device.new }
-
-        ensures up { (self.new.is_up ≡ false) ↔ IsErrOf result WriteFault.Device }
     {
         let item = ItemView {
             kind: Kind::Delete,
@@ -141,8 +127,7 @@ impl Store {
         requires up { self.old.is_up ≡ true }
         requires within { blocks_of (view_of self.old) ≤ D.blocks device.old }
         requires cost { cost ≤ group_room }
-        ensures rest { OnOk result
-            (view_of self.new ≡ record (view_of self.old) { log = (view_of self.new).log }) }
+        ensures rest { OnOk result (Relogs (view_of self.old) (view_of self.new)) }
         ensures room { OnOk result (total_cost self.new.log.pending + cost ≤ group_room) }
         ensures small { OnOk result (0 < length self.new.log.pending
             → total_cost self.new.memory ≤ 200000) }
@@ -174,7 +159,7 @@ impl Store {
         ensures flushed { is_due (view_of self.old) ≡ true → result ≡ Ok None
             → Flushes D.Device self.old self.new device.old device.new }
         ensures short { (short : Short) → result ≡ Ok (Some short)
-            → (view_of self.new ≡ view_of self.old) × (device.new ≡ device.old) }
+            → Unchanged self.old self.new device.old device.new }
         ensures pending { self.new.is_up ≡ true → self.new.log.pending ≡ self.old.log.pending }
         ensures small { result ≡ Ok None → total_cost self.new.memory ≤ 200000 }
         ensures slot { result ≡ Ok None → self.new.log.slots < self.new.manifest.geometry.slots }

@@ -9,11 +9,11 @@ last_count = 2 ^ 64 - 1
 abbrev pub next_count : ℕ → ℕ
 next_count count = max count (min (count + 1) last_count)
 
--- it rose by at least so much, or stands at its end
+-- a count rose by at least so much, or stands at its end
 abbrev pub RoseBy : ℕ → ℕ → ℕ → Type 0
 RoseBy steps before now = min (before + steps) last_count ≤ now
 
--- it is greater than before, or stands at its end
+-- a count is greater than before, or stands at its end
 abbrev pub Rose : ℕ → ℕ → Type 0
 Rose before now = RoseBy 1 before now
 
@@ -22,7 +22,7 @@ pub record HasCause {T E : Type 0} (before now : ℕ) (result : Result T E) : Ty
   pub later : before ≤ now
   pub failed : OnErr result (Rose before now)
 
--- it rises by one at most, and not past its end
+-- a count rises by one at most, and not past its end
 pub record CountsOne (before now : ℕ) : Type 0 where
   pub later : before ≤ now
   pub at_most_one : now ≤ next_count before

@@ -2,14 +2,10 @@ ghost use Rattle.std.specs.Prelude.{◌+◌, ◌<◌, [], ◌∷◌};
 
 use lt_item::parts_of;
 use lt_node::{Change, ChildChange, Children, CommitFault, NodeId, Numbers, Trie, path};
+use lt_pace::{Marks, first_full, first_slack};
 use lt_page::{Failed, NoMemory};
 use std::alloc::Global;
 use std::test::Fail;
-
-const ROOT: NodeId = NodeId {
-    level: 0,
-    number: 0,
-};
 
 const CHILD: NodeId = NodeId {
     level: 1,
@@ -41,7 +37,7 @@ fn deal(
         groups: numbers(alloc, groups)?,
     };
     Ok(Change::Deal {
-        node: ROOT,
+        node: NodeId::ROOT,
         dropped: 1,
         children: Children::of(vec![in alloc; child]?),
     })
@@ -95,7 +91,7 @@ fn flushes_append_to_the_root(rt: HostRuntime) -> Result<(), Fail> {
     let alloc = rt.alloc();
     let mut trie = flushed(alloc, 3)?;
     assert!(rt; make(alloc, &mut trie, flush(alloc, &[9])?)?);
-    assert_eq!(rt; trie.pile(ROOT), [7, 5, 9].as_slice());
+    assert_eq!(rt; trie.pile(NodeId::ROOT), [7, 5, 9].as_slice());
     assert_eq!(rt; trie.tables(), 3);
     assert_eq!(rt; trie.nodes().len(), 1);
     Ok(())
@@ -176,7 +172,7 @@ fn extents_that_are_not_new(rt: HostRuntime) -> Result<(), Fail> {
 fn changes_of_another_shape(rt: HostRuntime) -> Result<(), Fail> {
     let alloc = rt.alloc();
     let mut trie = flushed(alloc, 2)?;
-    assert!(rt; !make(alloc, &mut trie, deal(alloc, ROOT, &[9], 0, &[])?)?);
+    assert!(rt; !make(alloc, &mut trie, deal(alloc, NodeId::ROOT, &[9], 0, &[])?)?);
     assert!(rt; !make(alloc, &mut trie, deal(alloc, CHILD, &[9], 0, &[])?)?);
     assert!(rt; !make(alloc, &mut trie, rewrite(alloc, CHILD, &[9], &[1])?)?);
     Ok(())
@@ -190,6 +186,33 @@ fn a_node_that_is_set(rt: HostRuntime) -> Result<(), Fail> {
     let no_groups = Vec::new(alloc);
     trie.set_node(alloc, CHILD, 0, Numbers::of(table), Numbers::of(no_groups))?;
     assert_eq!(rt; trie.pile(CHILD), [4].as_slice());
+    Ok(())
+}
+
+#[test]
+fn the_next_node_to_be_worked_at(rt: HostRuntime) -> Result<(), Fail> {
+    let alloc = rt.alloc();
+    let mut trie = flushed(alloc, 2)?;
+    assert!(rt; make(alloc, &mut trie, flush(alloc, &many(alloc, 7)?)?)?);
+    let eight = [20, 21, 22, 23, 24, 25, 26, 27];
+    assert!(rt; make(alloc, &mut trie, deal(alloc, CHILD, &eight, 0, &[28])?)?);
+    // The child is due and the root has eight tables; of each number of marks the next full pile, and the next
+    // that may have slack.
+    let mut marks = Marks::new(alloc)?;
+    let rows = [
+        (CHILD, Some(CHILD), Some(CHILD)),
+        (NodeId::ROOT, Some(NodeId::ROOT), None),
+        (NodeId::ROOT, None, None),
+    ];
+    for (marked_next, full, slack) in rows {
+        assert_eq!(rt; first_full(&trie, &marks), full);
+        assert_eq!(rt; first_slack(&trie, &marks, &marks), slack);
+        marks.mark(marked_next);
+    }
+    marks.clear(NodeId::ROOT);
+    assert_eq!(rt; first_full(&trie, &marks), Some(NodeId::ROOT));
+    marks.clear_all();
+    assert!(rt; !marks.is_marked(CHILD));
     Ok(())
 }
 

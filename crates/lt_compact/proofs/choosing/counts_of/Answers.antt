@@ -9,6 +9,6 @@ use Rattle.lt_compact.proofs.choosing.counts_of.Goals as goal
 pub cut-requires : goal.cut-requires
 cut-requires c =
     let items : List Item = chosen c.args.choice c.args.items.now in
-    let ranked = filter-ranked (is_chosen c.args.choice) c.args.items.now c.requires.ranked in
-    let few : length items < 4294967296 = omega (arith, filter-few (is_chosen c.args.choice) c.args.items.now, c.requires.few) in
+    let ranked = filter-ranked (is_chosen c.args.choice) c.args.items.now c.requires.items.ranked in
+    let few : length items < 4294967296 = omega (arith, filter-few (is_chosen c.args.choice) c.args.items.now, c.requires.items.few) in
     subst AreEntries (sym (c.deref.ensures.value ∙ c.in_ok-entries.ensures.entries)) (few-are_entries items ranked (valid-filter (is_chosen c.args.choice) c.args.items.now c.in_ok-entries.ensures.valid) few)

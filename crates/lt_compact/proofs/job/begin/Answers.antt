@@ -1,4 +1,4 @@
-use Rattle.std.proofs.Common.{◌≡◌, ◌≤◌, ◌<◌, ◌^◌, ◌∙◌, refl, sym, ap, length, arith}
+use Rattle.std.proofs.Common.{◌≡◌, refl, ap, length, arith}
 use Rattle.lt_node.proofs.TotalLaws.{pile_few, total_few}
 use Rattle.lt_compact.proofs.job.begin.Goals as goal
 

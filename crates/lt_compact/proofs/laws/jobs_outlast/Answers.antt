@@ -5,7 +5,8 @@ pub returns-clause-shaped : goal.returns-clause-shaped
 returns-clause-shaped c = flush-shaped
 
 pub returns-clause-same : goal.returns-clause-same
-returns-clause-same c = same-keeps
+returns-clause-same c = λ m old new j spares holds. same-keeps m old new j spares.of_trie spares.of_job holds.shaped holds.keeps
 
 pub returns-clause-flushed : goal.returns-clause-flushed
-returns-clause-flushed c = flush-keeps_job
+returns-clause-flushed c = λ m n old new tables j least geometry flushed spares holds.
+    flush-keeps_job m n old new tables j least geometry flushed spares.of_trie spares.of_job holds.shaped holds.keeps

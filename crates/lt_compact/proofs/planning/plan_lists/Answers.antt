@@ -18,15 +18,13 @@ use Rattle.lt_compact.proofs.planning.plan_lists.Goals as goal
 one-list : {A : Type 0} (items_of : A → List terms.Item) (lists now : List A) (list : A) → lists ≡ [] → now ≡ lists ++ list ∷ [] → flat_map items_of now ≡ items_of list
 one-list items_of lists now list none is = ap (flat_map items_of) (is ∙ ap (λ ls. ls ++ list ∷ []) none) ∙ append-nil (items_of list)
 
-pub shares_of-requires-clause-ranked : goal.shares_of-requires-clause-ranked
-shares_of-requires-clause-ranked c =
+pub shares_of-requires-clause-items : goal.shares_of-requires-clause-items
+shares_of-requires-clause-items c =
     let all : List terms.Item = flat_map (λ (list : Vec Item Global). list.items) c.args.lists.now.items in
-    ap newest c.in_ok-kept.ensures.newest ∙ newest-newest all ∙ sym c.in_ok-kept.ensures.newest
-
-pub shares_of-requires-clause-few : goal.shares_of-requires-clause-few
-shares_of-requires-clause-few c =
-    let all : List terms.Item = flat_map (λ (list : Vec Item Global). list.items) c.args.lists.now.items in
-    omega (arith, ap length c.in_ok-kept.ensures.newest, (counted all).few, c.requires.few)
+    record {
+      ranked = ap newest c.in_ok-kept.ensures.newest ∙ newest-newest all ∙ sym c.in_ok-kept.ensures.newest;
+      few = omega (arith, ap length c.in_ok-kept.ensures.newest, (counted all).few, c.requires.few);
+    }
 
 pub planned-requires : goal.planned-requires
 planned-requires c =

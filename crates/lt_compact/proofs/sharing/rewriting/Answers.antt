@@ -24,4 +24,4 @@ puts-cut items seen puts behind counts is same ranked valid few none counts_are 
 pub of-requires : goal.of-requires
 of-requires c =
     let puts : c.without_deletes-items.result.items ≡ without_deletes c.args.kept.now.items = c.without_deletes-items.ensures ∙ ap (λ (v : Vec owned.Item Global). without_deletes v.items) c.replace.ensures.value in
-    puts-cut c.args.kept.now.items c.deref.result.now c.without_deletes-items.result.items c.new-2.result.items c.in_ok-counts.counts.items puts c.deref.ensures.value c.requires.ranked c.in_ok-counts.ensures.valid c.requires.few c.new-2.ensures.items c.in_ok-counts.ensures.counts
+    puts-cut c.args.kept.now.items c.deref.result.now c.without_deletes-items.result.items c.new-2.result.items c.in_ok-counts.counts.items puts c.deref.ensures.value c.requires.items.ranked c.in_ok-counts.ensures.valid c.requires.items.few c.new-2.ensures.items c.in_ok-counts.ensures.counts

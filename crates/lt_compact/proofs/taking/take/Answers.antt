@@ -1,4 +1,4 @@
-use Rattle.std.proofs.Common.{◌≡◌, ◌∙◌, [], subst, ap, sym, List, ℕ, true, ◌||◌}
+use Rattle.std.proofs.Common.{◌∙◌, [], subst, ap, sym, List, ℕ, ◌||◌}
 use Rattle.lt_terms.specs.Bytes.{is_in}
 use Rattle.lt_alloc.specs.Extents.{Reserves, free_count, is_free}
 use Rattle.lt_format.specs.Trie.{all_distinct}

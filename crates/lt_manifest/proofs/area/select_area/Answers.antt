@@ -3,7 +3,7 @@ use Rattle.std.proofs.lemmas.Result.{on_ok_weaker}
 use Rattle.lt_device.proofs.Fits.{wrote_fit}
 use Rattle.lt_device.proofs.Rest.{unsynced_none}
 use Rattle.lt_manifest.proofs.CommitLaws.{selector-sure}
-use Rattle.lt_manifest.proofs.TouchLaws.{touches-none, touches-writes, touches-syncs}
+use Rattle.lt_device.proofs.TouchLaws.{touches-none, touches-writes, touches-syncs}
 use Rattle.lt_manifest.proofs.area.select_area.Goals as goal
 
 pub returns-in_err-write-clause-touches : goal.returns-in_err-write-clause-touches

@@ -18,13 +18,18 @@ returns-in_err-check_closed-clause-damaged g c = λ b is image told.
     replayed-open_behind c.args.geometry.now c.args.area c.args.writes image c.loop-slot.slot b c.loop-slot.read.items.items c.loop-slot-test.true (so_far.replayed image told) closed
     (c.check_closed.ensures.damaged b (handed_on _ _ _ _ _ c.in_err-check_closed.was fault.1 fault.2 is) image (ap (λ (s : State). s.shown) c.read_gate.ensures.calls.state ∙ here))
 
-pub returns-then-not-branch-clause-items : goal.returns-then-not-branch-clause-items
-returns-then-not-branch-clause-items g c = λ image told.
+pub returns-then-not-branch-clause-read : goal.returns-then-not-branch-clause-read
+returns-then-not-branch-clause-read g c =
     let so_far = c.loop-slot.invariant in
-    let here = ap (λ (s : State). s.shown) so_far.calls.state ∙ told in
-    let closed = c.in_ok-read_gate.ensures.opened image here ∙ c.if-not-branch.true in
-    replayed-ended c.args.geometry.now c.args.area c.args.writes image c.loop-slot.slot c.loop-slot.read.items.items c.loop-slot-test.true (so_far.replayed image told) closed
-    (c.in_ok-check_closed.ensures.closed image (ap (λ (s : State). s.shown) c.read_gate.ensures.calls.state ∙ here))
+    record {
+      read = λ image told.
+          let here = ap (λ (s : State). s.shown) so_far.calls.state ∙ told in
+          let closed = c.in_ok-read_gate.ensures.opened image here ∙ c.if-not-branch.true in
+          replayed-ended c.args.geometry.now c.args.area c.args.writes image c.loop-slot.slot c.loop-slot.read.items.items c.loop-slot-test.true (so_far.replayed image told) closed
+          (c.in_ok-check_closed.ensures.closed image (ap (λ (s : State). s.shown) c.read_gate.ensures.calls.state ∙ here));
+      enough = so_far.enough;
+      within = omega (arith, c.loop-slot-test.true);
+    }
 
 pub returns-in_err-read-clause-damaged : goal.returns-in_err-read-clause-damaged
 returns-in_err-read-clause-damaged g c = λ b is image told.
@@ -43,8 +48,8 @@ loop-slot-preserved g c =
     let so_far = c.loop-slot.invariant in
     let gate = c.read_gate.ensures in
     record {
-      writes = c.in_ok-read.ensures.writes ∙ so_far.writes;
-      enough = omega (arith, so_far.enough, c.in_ok-read.ensures.more);
+      writes = c.in_ok-read.ensures.goes_on.writes ∙ so_far.writes;
+      enough = omega (arith, so_far.enough, c.in_ok-read.ensures.goes_on.more);
       replayed = λ image told.
           let here = ap (λ (s : State). s.shown) so_far.calls.state ∙ told in
           let opened = c.in_ok-read_gate.ensures.opened image here ∙ c.if-not-branch.false in
@@ -54,6 +59,10 @@ loop-slot-preserved g c =
       calls = reads_more {m = 2 * c.loop-slot.slot + 1} (omega arith) (reads_more {k = 2 * c.loop-slot.slot + 1} (omega arith) so_far.calls gate.calls) c.read_content.ensures.calls;
     }
 
-pub returns-clause-items : goal.returns-clause-items
-returns-clause-items g c = λ image told.
-    replayed-all c.args.geometry.now c.args.area c.args.writes image c.loop-slot.slot c.loop-slot.read.items.items (omega (arith, c.loop-slot-test.false, c.loop-slot.auto.slot-end)) (c.loop-slot.invariant.replayed image told)
+pub returns-clause-read : goal.returns-clause-read
+returns-clause-read g c = record {
+  read = λ image told.
+      replayed-all c.args.geometry.now c.args.area c.args.writes image c.loop-slot.slot c.loop-slot.read.items.items (omega (arith, c.loop-slot-test.false, c.loop-slot.auto.slot-end)) (c.loop-slot.invariant.replayed image told);
+  enough = omega (arith, c.loop-slot.invariant.enough, c.loop-slot-test.false, c.loop-slot.auto.slot-end);
+  within = omega arith;
+}

@@ -36,30 +36,27 @@ returns-clause-any_moment g c = λ from groups group same follows rests.
     let run = syncs c.sync.ensures.ended (content_written c.args.geometry.now c.args.area from groups group c.args.content.now follows wrote rests) in
     syncs c.sync-2.ensures.ended (gate_written c.args.geometry.now c.args.area from groups group c.args.content.now follows (rw same c.requires.within) wrote is c.in_ok-sync.ensures.ok (wrote_at gate c.write-2.ensures.wrote) run)
 
-pub returns-clause-committed : goal.returns-clause-committed
-returns-clause-committed g c = on_ok_weaker c.sync-2.result (λ sure. λ from groups group same follows rests.
-    let gate : c.log_gate-gate.result ≡ log_gate c.args.geometry.now c.args.area (length groups) = c.log_gate-gate.ensures ∙ ap (log_gate c.args.geometry.now c.args.area) (sym same) in
-    let wrote = wrote_at (ap (λ k. k + 1) gate) c.write.ensures.wrote in
-    let is = written_at (g.D.Device.state c.args.device.now) (g.D.Device.state c.write.new.self) c.args.content.now (ap (λ k. k + 1) gate) c.in_ok-write.ensures.ok in
-    let run = syncs c.sync.ensures.ended (content_written c.args.geometry.now c.args.area from groups group c.args.content.now follows wrote rests) in
-    let opened = subst (λ (page : List ℕ). g.D.Device.state c.write-2.new.self ≡ written (g.D.Device.state c.sync.new.self) c.log_gate-gate.result page) c.requires.opens c.in_ok-write-2.ensures.ok in
-    let gate_is = written_at (g.D.Device.state c.sync.new.self) (g.D.Device.state c.write-2.new.self) (gate_page true) gate opened in
-    let below : log_content c.args.geometry.now c.args.area (length groups) < g.D.Device.blocks c.args.device.now = rw same c.requires.within in
-    let in_range : log_gate c.args.geometry.now c.args.area (length groups) < g.D.Device.blocks c.sync.new.self = omega (arith, below, c.write.ensures.size, c.sync.ensures.size) in
-    committed c.args.geometry.now c.args.area from groups group c.args.content.now follows below in_range wrote is c.in_ok-sync.ensures.ok (wrote_at gate c.write-2.ensures.wrote) gate_is sure run) c.sync-2.ensures.ok
-
-pub returns-clause-pages : goal.returns-clause-pages
-returns-clause-pages g c = on_ok_weaker c.sync-2.result (λ sure.
+pub returns-clause-written : goal.returns-clause-written
+returns-clause-written g c = on_ok_weaker c.sync-2.result (λ sure.
     let gate = c.log_gate-gate.ensures in
     let is = written_at (g.D.Device.state c.args.device.now) (g.D.Device.state c.write.new.self) c.args.content.now (ap (λ k. k + 1) gate) c.in_ok-write.ensures.ok in
     let opened = subst (λ (page : List ℕ). g.D.Device.state c.write-2.new.self ≡ written (g.D.Device.state c.sync.new.self) c.log_gate-gate.result page) c.requires.opens c.in_ok-write-2.ensures.ok in
     let gate_is = written_at (g.D.Device.state c.sync.new.self) (g.D.Device.state c.write-2.new.self) (gate_page true) gate opened in
     let in_range : log_gate c.args.geometry.now c.args.area c.args.slot < g.D.Device.blocks c.sync.new.self = omega (arith, c.requires.within, c.write.ensures.size, c.sync.ensures.size) in
-    pages_written c.args.geometry.now c.args.area c.args.slot c.args.content.now c.requires.within in_range (wrote_at (ap (λ k. k + 1) gate) c.write.ensures.wrote) is c.in_ok-sync.ensures.ok
-    (wrote_at gate c.write-2.ensures.wrote) gate_is sure) c.sync-2.ensures.ok
-
-pub returns-clause-sure : goal.returns-clause-sure
-returns-clause-sure g c = on_ok_weaker c.sync-2.result (λ made. unsynced_none _ made) c.sync-2.ensures.ok
+    record {
+      committed = λ from groups group same follows rests.
+          let gate : c.log_gate-gate.result ≡ log_gate c.args.geometry.now c.args.area (length groups) = c.log_gate-gate.ensures ∙ ap (log_gate c.args.geometry.now c.args.area) (sym same) in
+          let wrote = wrote_at (ap (λ k. k + 1) gate) c.write.ensures.wrote in
+          let is = written_at (g.D.Device.state c.args.device.now) (g.D.Device.state c.write.new.self) c.args.content.now (ap (λ k. k + 1) gate) c.in_ok-write.ensures.ok in
+          let run = syncs c.sync.ensures.ended (content_written c.args.geometry.now c.args.area from groups group c.args.content.now follows wrote rests) in
+          let gate_is = written_at (g.D.Device.state c.sync.new.self) (g.D.Device.state c.write-2.new.self) (gate_page true) gate opened in
+          let below : log_content c.args.geometry.now c.args.area (length groups) < g.D.Device.blocks c.args.device.now = rw same c.requires.within in
+          let in_range : log_gate c.args.geometry.now c.args.area (length groups) < g.D.Device.blocks c.sync.new.self = omega (arith, below, c.write.ensures.size, c.sync.ensures.size) in
+          committed c.args.geometry.now c.args.area from groups group c.args.content.now follows below in_range wrote is c.in_ok-sync.ensures.ok (wrote_at gate c.write-2.ensures.wrote) gate_is sure run;
+      pages = pages_written c.args.geometry.now c.args.area c.args.slot c.args.content.now c.requires.within in_range (wrote_at (ap (λ k. k + 1) gate) c.write.ensures.wrote) is c.in_ok-sync.ensures.ok
+          (wrote_at gate c.write-2.ensures.wrote) gate_is sure;
+      sure = unsynced_none _ sure;
+    }) c.sync-2.ensures.ok
 
 pub returns-in_err-write-clause-confined : goal.returns-in_err-write-clause-confined
 returns-in_err-write-clause-confined g c = confined_writes c.write.ensures.wrote (confined_begins _) (inr (ap (λ k. k + 1) c.log_gate-gate.ensures))

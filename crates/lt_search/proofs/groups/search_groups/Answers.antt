@@ -10,7 +10,7 @@ use Rattle.lt_tables.proofs.ListLaws.{all_drop, all_take}
 use Rattle.lt_format.specs.Layout.{extent_block}
 use Rattle.lt_htable.specs.declared.faults.LookFault.TheVariants.{Damaged}
 use Rattle.lt_htable.proofs.SoughtLaws.{column-is}
-use Rattle.lt_search.specs.Asking.{asks_group}
+use Rattle.lt_search.specs.Seen.{asks_group}
 use Rattle.lt_search.specs.Reads.{path_reads}
 use Rattle.lt_search.specs.Searched.{Searched}
 use Rattle.lt_search.specs.Seen.{pile_stops}

@@ -3,7 +3,7 @@ use Rattle.lt_terms.specs.Bytes.{Image}
 use Rattle.lt_device.specs.Calls.{OnlyReads}
 use Rattle.lt_format.specs.declared.node_id.NodeId.{NodeId}
 use Rattle.lt_format.specs.Trie.{is_last_level}
-use Rattle.lt_search.specs.Asking.{asks_group}
+use Rattle.lt_search.specs.Seen.{asks_group}
 use Rattle.lt_search.specs.Reads.{path_reads}
 use Rattle.lt_search.proofs.GroupLaws.{later_stops}
 use Rattle.lt_search.proofs.SearchLaws.{SoFar}

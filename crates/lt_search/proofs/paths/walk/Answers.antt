@@ -9,7 +9,8 @@ use Rattle.lt_format.specs.Trie.{groups_for, node_at, path}
 use Rattle.lt_image.specs.Versions.{stops}
 use Rattle.lt_image.proofs.MapLaws.{named-tables}
 use Rattle.lt_search.specs.declared.version.Version.{Version}
-use Rattle.lt_search.specs.Asking.{asks_group, asks_kept, is_asked, most_reads}
+use Rattle.lt_search.specs.Asking.{asks_kept, is_asked, most_reads}
+use Rattle.lt_search.specs.Seen.{asks_group}
 use Rattle.lt_search.specs.Reads.{bucket_reads, path_reads}
 use Rattle.lt_search.specs.Searched.{Searched}
 use Rattle.lt_search.specs.Seen.{IsBucketOf, pile_stops}

@@ -34,8 +34,8 @@ returns-in_err-outcome-in-Ok-clause-err g c =
     let fault = err_from_is_err_and c.from_residual.result c.from_residual.ensures.1 in
     subst (λ r. IfErr r (λ f. (durable : State) → IsOpen (view_of c.args.store.now) durable device → Lost (view_of c.args.store.now) durable (round_fault_of f) old after)) (sym fault.1)
     (λ durable opened. subst (λ f. Lost (view_of c.args.store.now) durable (round_fault_of f) old after) (sym fault.2)
-    (lost-event (view_of c.args.store.now) (view_of c.act.new.self) durable c.in_err-outcome-in-Ok.field-0.0 c.act.new.self.is_up old after opened (reads-event (write_of c.in-Ok.event) _ _ _ c.act.ensures.count c.act.ensures.while_rooted.count)
-    (c.in_err-outcome-in-Ok.ensures.broken durable opened) (c.act.ensures.while_rooted.rooted durable opened) (λ up. c.in_err-outcome-in-Ok.ensures.goes_on up durable opened)
+    (lost-event (view_of c.args.store.now) (view_of c.act.new.self) durable c.in_err-outcome-in-Ok.field-0.0 c.act.new.self.is_up old after opened (reads-event (write_of c.in-Ok.event) _ _ _ c.act.ensures.count c.act.ensures.in_place.count)
+    (c.in_err-outcome-in-Ok.ensures.broken durable opened) (λ up. c.in_err-outcome-in-Ok.ensures.goes_on up durable opened)
     (λ down. search rules) (λ b is. c.act.ensures.sound b durable opened (search rules))))
 
 pub returns-in_err-outcome-in-Ok-clause-device : goal.returns-in_err-outcome-in-Ok-clause-device
@@ -51,12 +51,11 @@ returns-in_ok-outcome-in-Ok-clause-ok g c = λ durable opened.
     let out = c.in_ok-outcome-in-Ok in
     let old = moment_of g.D.Device c.args.device.now in
     let new = moment_of g.D.Device c.act.new.device in
-    let rooted = c.act.ensures.while_rooted.rooted durable opened in
     subst (λ taken. Answers (view_of c.args.store.now) durable (command_in c.args.command.now) taken c.args.out.now c.add_outcome.new.out (view_of c.act.new.self) old new) (sym c.is_taken.ensures)
     (answers-event (view_of c.args.store.now) (view_of c.act.new.self) durable c.in-Ok.event (command_in c.args.command.now) out.outcome c.act.new.out c.found.result.now c.args.out.now c.add_outcome.new.out old new c.in-Ok.ensures.0
-    (out.ensures.step durable opened) (out.ensures.goes durable opened) rooted (λ asks. (c.act.ensures.asked asks).1) (λ n f same idle. ap g.D.Device.state (c.act.ensures.while_rooted.full_quiet n f (c.in_ok-outcome-in-Ok.was ∙ ap Ok same) idle)) (IfSome_then (write_of c.in-Ok.event) c.act.ensures.writes (λ item w. λ same. ap g.D.Device.state (w.unchanged (c.in_ok-outcome-in-Ok.was ∙ ap Ok same)).1))
-    (reads-event (write_of c.in-Ok.event) _ _ _ c.act.ensures.count c.act.ensures.while_rooted.count) (past-stays _ _ opened.rest.image opened.rest.tells rooted)
-    (λ x same. let told = c.act.ensures.stat_images x (out.was ∙ ap Ok same) in record { reads = ap (λ (y : Stat). y.reads) (c.act.ensures.stat x (out.was ∙ ap Ok same)); few = told.few; images = told.images durable opened }) c.found.ensures.front c.found.ensures.value c.add_outcome.ensures.short c.requires.room c.add_outcome.ensures.text)
+    (out.ensures.step durable opened) (out.ensures.goes durable opened) (λ asks. (c.act.ensures.asked asks).1) (λ n f same idle. ap g.D.Device.state (c.act.ensures.in_place.full_quiet n f (c.in_ok-outcome-in-Ok.was ∙ ap Ok same) idle)) (IfSome_then (write_of c.in-Ok.event) c.act.ensures.writes (λ item w. λ same. ap g.D.Device.state (w.unchanged (c.in_ok-outcome-in-Ok.was ∙ ap Ok same)).1))
+    (reads-event (write_of c.in-Ok.event) _ _ _ c.act.ensures.count c.act.ensures.in_place.count) (past-stays _ _ opened.rest.image opened.rest.tells (out.ensures.goes durable opened).survives)
+    (λ x same. let told = c.act.ensures.stat x (out.was ∙ ap Ok same) in record { reads = ap (λ (y : Stat). y.reads) told.is; few = told.few; images = told.images durable opened }) c.found.ensures.front c.found.ensures.value c.add_outcome.ensures.short c.requires.room c.add_outcome.ensures.text)
 
 pub returns-in_ok-outcome-in-Ok-clause-device : goal.returns-in_ok-outcome-in-Ok-clause-device
 returns-in_ok-outcome-in-Ok-clause-device g c =
@@ -78,8 +77,8 @@ returns-in_ok-outcome-in-Ok-clause-tells g c =
     let state = g.D.Device.state in
     subst (λ taken. Tells (view_of c.args.store.now) (command_in c.args.command.now) taken c.args.out.now c.add_outcome.new.out (view_of c.act.new.self) (state c.args.device.now) (state c.act.new.device)) (sym c.is_taken.ensures)
     (tells-event (view_of c.args.store.now) (view_of c.act.new.self) c.in-Ok.event (command_in c.args.command.now) out.outcome c.act.new.out (outcome_text out.outcome c.found.result.now) c.args.out.now c.add_outcome.new.out _ _ c.in-Ok.ensures.0 out.ensures.kind
-    (λ key image asks shown. out.ensures.seen key image asks shown) c.act.ensures.asked (λ n f same idle. ap state (c.act.ensures.while_rooted.full_quiet n f (out.was ∙ ap Ok same) idle))
-    (IfSome_then (write_of c.in-Ok.event) c.act.ensures.while_rooted.full_same (λ item full. λ n f same. full n f (out.was ∙ ap Ok same)))
+    (λ key image asks shown. out.ensures.seen key image asks shown) c.act.ensures.asked (λ n f same idle. ap state (c.act.ensures.in_place.full_quiet n f (out.was ∙ ap Ok same) idle))
+    (IfSome_then (write_of c.in-Ok.event) c.act.ensures.in_place.full_same (λ item full. λ n f same. full n f (out.was ∙ ap Ok same)))
     (IfSome_then (write_of c.in-Ok.event) c.act.ensures.writes (λ item w. λ same. let u = w.unchanged (out.was ∙ ap Ok same) in (u.0, ap state u.1)))
     (same-text out.outcome c.act.new.out c.found.result.now c.found.ensures.front c.found.ensures.value) c.add_outcome.ensures.text)
 

@@ -52,7 +52,7 @@ loop-number-preserved g c =
       pieces = rose-more c.loop-number.number _ _ _ so_far.pieces turn.pieces;
       sees = λ image shown.
           let m = so_far.sees image shown in
-          serves-more _ _ _ _ _ _ _ _ _ _ m _ _ _ _ _ (turn.on.1 (store_in c.args.session.now) image m.0 m.2.added (g.D.Device.state c.args.device.now) shown m.2.lines);
+          serves-more (store_in c.args.session.now) image _ _ _ _ _ _ _ _ m _ _ _ _ _ (turn.on.1 (store_in c.args.session.now) image m.0 m.2.added (g.D.Device.state c.args.device.now) shown m.2.lines);
       on = λ before opened.
           let t = so_far.on before opened in
           turned-more _ before _ _ _ _ _ _ _ _ t _ so_far.sizes.extents _ _ _ _ _ (turn.on.0 before t.taken t.on.added (moment_of g.D.Device c.args.device.now));
@@ -76,10 +76,10 @@ pub returns-in-Err-clause-seen : goal.returns-in-Err-clause-seen
 returns-in-Err-clause-seen g c = λ image shown.
     let m = c.loop-number.invariant.sees image shown in
     let last = c.in-Err.ensures.over.1 (store_in c.args.session.now) image m.0 m.2.added (g.D.Device.state c.args.device.now) shown m.2.lines in
-    serves-last _ _ _ _ _ _ _ _ _ _ m _ _ _ last
+    serves-last (store_in c.args.session.now) image _ _ _ _ _ _ _ _ m _ _ _ last
 
 pub returns-clause-seen : goal.returns-clause-seen
-returns-clause-seen g c = λ image shown. serves-still _ _ _ _ _ _ _ _ _ _ (c.loop-number.invariant.sees image shown) _ (λ is. absurd (cc (is))) (λ b is. absurd (cc (is)))
+returns-clause-seen g c = λ image shown. serves-still (store_in c.args.session.now) image _ _ _ _ _ _ _ _ (c.loop-number.invariant.sees image shown) _ (λ is. absurd (cc (is))) (λ b is. absurd (cc (is)))
 
 pub returns-in_default-clause-causes : goal.returns-in_default-clause-causes
 returns-in_default-clause-causes g c = record {

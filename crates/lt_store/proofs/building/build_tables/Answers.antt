@@ -1,5 +1,5 @@
-use Rattle.std.proofs.Common.{◌<◌, ◌∙◌, refl, sym, length, map, get_or, arith}
-use Rattle.std.proofs.lemmas.List.{length-map}
+use Rattle.std.proofs.Common.{◌<◌, ◌∙◌, refl, sym, ap, length, map, get_or, arith}
+use Rattle.std.proofs.lemmas.List.{length-map, length-set}
 use Rattle.lt_device.proofs.Runs.{confined_begins}
 use Rattle.lt_store.proofs.BuildLaws.{AreBuilt-none, AreBuilt-more, AreBuilt-writing, AreBuilt-all, map-at}
 use Rattle.lt_store.proofs.building.build_tables.Goals as goal
@@ -8,13 +8,14 @@ use Rattle.lt_node.proofs.MarkLaws.{below_at}
 pub loop-turn-init : goal.loop-turn-init
 loop-turn-init g c = record {
   built = AreBuilt-none c.args.geometry.now c.args.filters.now (g.D.Device.state c.args.device.now) c.args.numbers.now (map (λ table. table.now) c.args.tables.now) (confined_begins _);
+  room = refl;
   calls = record { size = refl; count = refl; later = omega arith; cause = λ none. absurd none };
 }
 
 pub loop-turn-preserved : goal.loop-turn-preserved
 loop-turn-preserved g c =
     let before = c.loop-turn.invariant in
-    let small : get_or c.args.numbers.now c.loop-turn.turn 0 < length c.loop-turn.filters = omega (arith, below_at (length c.args.filters.now) c.args.numbers.now c.loop-turn.turn c.requires.below c.loop-turn-test.true, c.loop-turn.auto.filters) in
+    let small : get_or c.args.numbers.now c.loop-turn.turn 0 < length c.loop-turn.filters = omega (arith, below_at (length c.args.filters.now) c.args.numbers.now c.loop-turn.turn c.requires.below c.loop-turn-test.true, c.loop-turn.invariant.room) in
     let there : c.loop-turn.turn < length c.args.tables.now = omega (arith, c.requires.same_count, c.loop-turn-test.true) in
     record {
       built = AreBuilt-more c.args.geometry.now c.args.filters.now c.loop-turn.filters _ (g.D.Device.state c.args.device.now) (g.D.Device.state c.loop-turn.device) (g.D.Device.state c.build.new.device) c.args.numbers.now _ c.loop-turn.turn _ c.extent.result c.index-tables-turn.result.now c.in_ok-built.built
@@ -22,7 +23,8 @@ loop-turn-preserved g c =
           (map-at (λ table. table.now) c.args.tables.now c.loop-turn.turn c.index-tables-turn.result _ there c.index-tables-turn.is)
           (record { confined = c.build.ensures.confined; shows = c.build.ensures.others })
           (record { placed = c.in_ok-built.ensures.placed; filters = c.in_ok-built.ensures.filters })
-          refl;
+          c.keep.ensures;
+      room = ap length c.keep.ensures ∙ length-set c.loop-turn.filters _ _ ∙ before.room;
       calls = record {
         size = c.build.ensures.size ∙ before.calls.size;
         count = c.build.ensures.count ∙ before.calls.count;

@@ -1,5 +1,4 @@
-use Rattle.lt_store.proofs.GoLaws.{open-rests, fresh-rests}
-use Rattle.lt_store.proofs.RootedLaws.{open-rooted, crashed-rests}
+use Rattle.lt_store.proofs.GoLaws.{crashed-rests, open-rests, fresh-rests}
 use Rattle.lt_store.proofs.SeenLaws.{opened-seen}
 use Rattle.lt_store.proofs.laws.open_rests.Goals as goal
 
@@ -8,9 +7,6 @@ returns-clause-opened c = open-rests
 
 pub returns-clause-fresh : goal.returns-clause-fresh
 returns-clause-fresh c = fresh-rests
-
-pub returns-clause-rooted : goal.returns-clause-rooted
-returns-clause-rooted c = open-rooted
 
 pub returns-clause-crashed : goal.returns-clause-crashed
 returns-clause-crashed c = crashed-rests

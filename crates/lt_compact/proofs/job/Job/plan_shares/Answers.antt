@@ -1,4 +1,4 @@
-use Rattle.std.proofs.Common.{◌≡◌, ◌∙◌, ap}
+use Rattle.std.proofs.Common.{◌∙◌, ap}
 use Rattle.lt_format.specs.Trie.{is_node}
 use Rattle.lt_compact.specs.Jobs.{JobView}
 use Rattle.lt_compact.proofs.JobLaws.{shaped-node}

@@ -6,8 +6,8 @@ use Rattle.lt_device.proofs.Histories.{IsStable-history}
 use Rattle.lt_device.proofs.Picks.{IsPicked-each, MayLeave-picked}
 use Rattle.lt_device.proofs.mem_device.MemDevice.leave.Goals as goal
 
-pub returns-clause-picked : goal.returns-clause-picked
-returns-clause-picked c =
+pub returns-clause-left : goal.returns-clause-left
+returns-clause-left c =
     let inside = c.self.inside in
     let shown = inside.store.pages.items in
     let flags = inside.store.unsynced.items in
@@ -17,7 +17,5 @@ returns-clause-picked c =
     let size : length c.choose.new.pages ≡ length shown = c.choose.auto.pages ∙ c.undo.auto.pages ∙ ap length given in
     let each : (k : ℕ) → k < length (stable_of (made inside.history) shown) → block_at c.choose.new.pages k ≡ left_at c.args.picks.now flags (stable_of (made inside.history) shown) shown k =
     subst (λ (i : Image). (k : ℕ) → k < length i → block_at c.choose.new.pages k ≡ left_at c.args.picks.now flags i shown k) stable c.choose.ensures.each in
-    subst (λ (d : Memory). IsPicked c.args.picks.now d c.choose.new.pages) c.self.view_is (IsPicked-each c.args.picks.now _ c.choose.new.pages is size inside.store.flags each)
-
-pub returns-clause-left : goal.returns-clause-left
-returns-clause-left c = MayLeave-picked _ _ _ (returns-clause-picked c) c.choose.ensures.blocks
+    let picked = subst (λ (d : Memory). IsPicked c.args.picks.now d c.choose.new.pages) c.self.view_is (IsPicked-each c.args.picks.now _ c.choose.new.pages is size inside.store.flags each) in
+    record { picked = picked; may = MayLeave-picked _ _ _ picked c.choose.ensures.blocks }

@@ -10,7 +10,7 @@ recorded c =
     let pages = c.self.inside.store.pages.items in
     let below : c.args.block < length pages = search rules in
     let before : c.index.result.now ≡ block_at pages c.args.block = get_or_read pages c.args.block _ below c.index.ensures [] in
-    adds _ _ _ _ _ _ _ before c.write-2.ensures.shown c.write.ensures.made
+    adds _ _ _ _ _ _ _ before c.write-2.ensures.shown c.write.ensures.added
 
 pub returns-clause-recorded : goal.returns-clause-recorded
 returns-clause-recorded c = let a = recorded c in search rules

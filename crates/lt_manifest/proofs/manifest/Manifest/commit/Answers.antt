@@ -1,12 +1,13 @@
-use Rattle.std.proofs.Common.{◌≡◌, ℕ, ◌+◌, ◌-◌, ◌≤◌, vec_capacity, ◌∙◌, ap, sym, subst, inl, inr, length, arith}
+use Rattle.std.proofs.Common.{rules, ◌≡◌, ℕ, ◌+◌, ◌-◌, ◌≤◌, vec_capacity, ◌∙◌, ap, sym, subst, inl, inr, length, arith}
 use Rattle.lt_device.proofs.Runs.{confined_widens}
 use Rattle.lt_format.specs.declared.header.Header.{Header}
 use Rattle.lt_format.specs.Snapshot.{Manifest, nodes_bytes, snapshot_bytes, Named}
 use Rattle.lt_format.specs.Trie.{Trie}
 use Rattle.lt_node.specs.Changing.{change_of}
-use Rattle.lt_manifest.specs.Written.{InSelected, TouchesOnly}
+use Rattle.lt_device.specs.Calls.{TouchesOnly}
+use Rattle.lt_manifest.specs.Written.{InSelected}
 use Rattle.lt_manifest.proofs.ManifestLaws.{ready-from, ready-stands, ready-held, bytes-fit, nodes-fit, moment-written, moment-selected, selected-committed, selected-written}
-use Rattle.lt_manifest.proofs.TouchLaws.{touches-joins, touches-widens}
+use Rattle.lt_device.proofs.TouchLaws.{touches-joins, touches-widens}
 use Rattle.lt_manifest.proofs.WriteLaws.{selected-manifest}
 use Rattle.lt_manifest.proofs.manifest.Manifest.commit.Goals as goal
 
@@ -25,15 +26,15 @@ spell-requires-clause-room g c =
     let few = nodes-fit i.geometry blocks _ (ready-stands i.geometry i.area blocks i.header i.trie (change_of c.args.change.now) c.kept-self-inside.result c.apply.new.self ready) in
     subst (λ (t : Trie). 40 + length (nodes_bytes t) ≤ vec_capacity c.in_ok-bytes.bytes) (sym c.nodes.ensures.nodes) (omega (arith, few, ap (λ (h : Header). h.extents) c.kept-self-inside.ensures.same, c.in_ok-bytes.ensures.room))
 
-pub write_area-requires-clause-room : goal.write_area-requires-clause-room
-write_area-requires-clause-room g c =
+pub write_area-requires : goal.write_area-requires
+write_area-requires g c =
     let i = c.self.inside in
     let blocks : ℕ = g.D.Device.blocks c.args.device.now in
     let ready = ready-from i.geometry i.area blocks i.header i.trie (change_of c.args.change.now) c.args.header.now c.kept-self-inside.result c.apply.new.self _ c.self.view_is c.self.invariant c.requires.stands c.requires.may c.kept-self-inside.ensures.same c.kept-self-inside.ensures.writes c.in_ok-apply.ensures.ok in
     let m : Manifest = record { header = c.kept-self-inside.result; trie = c.apply.new.self.nodes } in
     let spelled : c.deref.result.now ≡ snapshot_bytes m = c.deref.ensures.value ∙ c.spell.ensures ∙ ap (λ (t : Trie). snapshot_bytes (record { header = c.kept-self-inside.result; trie = t })) c.nodes.ensures.nodes in
     let fits = bytes-fit i.geometry blocks m (ready-stands i.geometry i.area blocks i.header i.trie (change_of c.args.change.now) c.kept-self-inside.result c.apply.new.self ready) in
-    omega (arith, ap length spelled, fits)
+    record { area_is = search rules; within = search rules; room = omega (arith, ap length spelled, fits) }
 
 pub invariant_of-self-in_err-write_area : goal.invariant_of-self-in_err-write_area
 invariant_of-self-in_err-write_area g c =

@@ -9,9 +9,7 @@ pub invariant_of-self : goal.invariant_of-self
 invariant_of-self c =
     let kept = c.self.invariant in
     record {
-      valid = kept.valid;
-      area_is = kept.area_is;
-      within = kept.within;
+      place = kept.place;
       group = IsGathered-read _ _ _ _ (c.gather-self-inside.ensures.gathered _ _ kept.group);
       opens = kept.opens;
       closes = kept.closes;

@@ -5,9 +5,7 @@ use Rattle.lt_redo.proofs.log.Log.at.Goals as goal
 
 pub invariant_of-result : goal.invariant_of-result
 invariant_of-result c = record {
-  valid = c.requires.valid;
-  area_is = c.requires.area;
-  within = c.requires.within;
+  place = c.requires;
   group = IsGathered-read _ 0 0 [] (IsGathered-none _ c.clear.ensures.zeros);
   opens = c.write_gate.ensures;
   closes = c.write_gate-2.ensures;

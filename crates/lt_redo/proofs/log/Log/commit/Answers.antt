@@ -1,11 +1,11 @@
 use Rattle.std.proofs.Common.{rules, ℕ, ◌+◌, ◌<◌, List, [], ap, sym, ◌∙◌, subst, arith}
 use Rattle.std.proofs.lemmas.Result.{MatchResult-from_err}
 use Rattle.lt_terms.specs.Items.{Item}
-use Rattle.lt_redo.specs.LogState.{LogState, slots_with}
+use Rattle.lt_redo.specs.LogState.{LogState, slots_with, AnyMoment, Committed, Spelled, HasSlot}
 use Rattle.lt_redo.specs.Slots.{HasLog, HoldsPages}
 use Rattle.lt_redo.specs.Group.{items_on}
 use Rattle.lt_redo.proofs.GroupLaws.{IsGathered-none, IsGathered-read, items_on-gathered}
-use Rattle.lt_redo.proofs.NextGroup.{some_items, next_group, slots_with-some, groups_with-some, AnyMoment, Committed, Spelled, HasSlot}
+use Rattle.lt_redo.proofs.NextGroup.{some_items, next_group, slots_with-some, groups_with-some}
 use Rattle.lt_redo.proofs.log.Log.commit.Goals as goal
 
 pub returns-in_err-write_slot-clause-any_moment : goal.returns-in_err-write_slot-clause-any_moment
@@ -25,9 +25,7 @@ invariant_of-self-2 g c =
     let has_slot = subst HasSlot (sym c.self.view_is) c.requires.room in
     let slot : c.self.inside.slots < c.self.inside.geometry.slots = has_slot some in
     record {
-      valid = kept.valid;
-      area_is = kept.area_is;
-      within = omega (arith, slot);
+      place = record { valid = kept.place.valid; area_is = kept.place.area_is; within = omega (arith, slot) };
       group = IsGathered-read _ 0 0 [] (IsGathered-none _ c.clear.ensures.zeros);
       opens = kept.opens;
       closes = kept.closes;
@@ -51,7 +49,7 @@ returns-clause-committed g c =
     let has_slot = subst HasSlot (sym c.self.view_is) c.requires.room in
     subst (λ (s : LogState). Committed s (g.D.Device.state c.args.device.now) (g.D.Device.state c.write_slot.new.device)) c.self.view_is
     (λ groups same fits rests left may. subst (λ gs. HasLog i.geometry i.area i.writes gs left) (sym (groups_with-some groups (items_on i.content i.count i.used) some))
-    (c.in_ok-write_slot.ensures.committed i.writes groups (items_on i.content i.count i.used) same
+    (c.in_ok-write_slot.ensures.written.committed i.writes groups (items_on i.content i.count i.used) same
     (next_group i.geometry i.writes _ _ _ _ groups _ kept.group c.if-self-eq0.false (c.finish.ensures.content _ kept.group) (let slot = has_slot some in omega (arith, slot, same)) fits) rests left may))
 
 pub returns-clause-ok : goal.returns-clause-ok
@@ -67,7 +65,7 @@ pub returns-clause-spelled : goal.returns-clause-spelled
 returns-clause-spelled g c =
     let i = c.self.inside in
     subst (λ (s : LogState). Spelled s (g.D.Device.state c.write_slot.new.device)) c.self.view_is
-    (λ some left may. subst (λ (page : List ℕ). HoldsPages i.geometry i.area i.slots page left) (c.finish.ensures.content _ c.self.invariant.group) (c.in_ok-write_slot.ensures.pages left may))
+    (λ some left may. subst (λ (page : List ℕ). HoldsPages i.geometry i.area i.slots page left) (c.finish.ensures.content _ c.self.invariant.group) (c.in_ok-write_slot.ensures.written.pages left may))
 
 pub returns-in_err-write_slot-clause-err : goal.returns-in_err-write_slot-clause-err
 returns-in_err-write_slot-clause-err g c =

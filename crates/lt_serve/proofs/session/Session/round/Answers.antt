@@ -41,7 +41,7 @@ returns-in-Err-committed-clause-err g c = λ durable line opened free held.
     subst (λ (waiting0 : Waiting). Stopped (extents_of (store_in s)) durable (line ++ piece) w.lines Device waiting0 c.drop_unsettled-in-Err-committed.new.self.settled_text device after) c.settle.ensures
     (subst (λ (bytes : List ℕ). Stopped (extents_of (store_in s)) durable bytes w.lines Device c.settle.new.self c.drop_unsettled-in-Err-committed.new.self.settled_text device after) (taken-and-rest line piece n)
     (stopped-commit (store_in s) durable (line ++ take n piece) (kept_in w) w.wrote c.settle.new.self c.act_all.new.out (store_in w) device mid went nothing (drop n piece) c.drop_unsettled-in-Err-committed.new.self.settled_text w.lines Device after
-    (lost-commit (store_in w) now mid after went.goes.opened (omega (arith, c.in-Err-committed.ensures.calls.count)) (c.in-Err-committed.ensures.broken now went.goes.opened) (c.commit-committed.ensures.rooted now went.goes.opened)) settled c.in-Ok.ensures.acting.open_line refl (λ some. c.in-Ok.ensures.taken.enough (some-left piece n some))))
+    (lost-commit (store_in w) now mid after went.goes.opened (omega (arith, c.in-Err-committed.ensures.calls.count)) (c.in-Err-committed.ensures.broken now went.goes.opened)) settled c.in-Ok.ensures.acting.open_line refl (λ some. c.in-Ok.ensures.taken.enough (some-left piece n some))))
 
 pub returns-clause-ok : goal.returns-clause-ok
 returns-clause-ok g c = λ durable line opened free held.
@@ -54,7 +54,7 @@ returns-clause-ok g c = λ durable line opened free held.
     let went = c.in-Ok.ensures.ok.0 durable line opened free held in
     let now = after_writes durable (take went.goes.sure ((store_in s).log.pending ++ went.writes)) in
     round-after (store_in s) durable (line ++ take c.in-Ok.taken c.args.piece.now) (kept_in w) w.wrote c.settle.new.self c.act_all.new.out (store_in w) device mid went nothing
-    (view_of c.commit-committed.new.self) after (c.in-Ok-committed.ensures.opened now went.goes.opened) (c.commit-committed.ensures.rooted now went.goes.opened) (λ idle. ap g.D.Device.state (c.commit-committed.ensures.idle idle).1) (omega (arith, c.in-Ok-committed.ensures.calls.count)) (ap (λ (v : StoreView). v.log.pending) c.in-Ok-committed.ensures.ok)
+    (view_of c.commit-committed.new.self) after (c.in-Ok-committed.ensures.opened now went.goes.opened) (λ idle. ap g.D.Device.state (c.commit-committed.ensures.idle idle).1) (omega (arith, c.in-Ok-committed.ensures.calls.count)) (ap (λ (v : StoreView). v.log.pending) c.in-Ok-committed.ensures.ok)
     c.args.out.now c.settle-2.new.self c.settle.ensures c.settle-2.ensures
 
 pub returns-in-Err-committed-clause-device : goal.returns-in-Err-committed-clause-device

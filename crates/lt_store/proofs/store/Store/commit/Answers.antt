@@ -4,7 +4,6 @@ use Rattle.lt_store.specs.Going.{Goes}
 use Rattle.lt_store.specs.Open.{StoreView}
 use Rattle.lt_store.specs.View.{view_of}
 use Rattle.lt_store.proofs.CommitLaws.{commit-any, commit-breaks, commit-whole}
-use Rattle.lt_store.proofs.RootedLaws.{slot-rooted}
 use Rattle.lt_store.proofs.store.Store.commit.Goals as goal
 
 pub returns-in-Ok-clause-opened : goal.returns-in-Ok-clause-opened
@@ -17,12 +16,6 @@ returns-in-Ok-clause-opened g c = λ d o.
 pub returns-in-Err-clause-broken : goal.returns-in-Err-clause-broken
 returns-in-Err-clause-broken g c = λ d o.
     commit-breaks (view_of c.args.self.now) d _ _ _ (c.args.self.now.kept c.requires.up) o c.in-Err.ensures.any_moment c.in-Err.ensures.confined (λ idle. ap g.D.Device.state (c.in-Err.ensures.idle idle).1)
-
-pub returns-in-Ok-clause-rooted : goal.returns-in-Ok-clause-rooted
-returns-in-Ok-clause-rooted g c = λ d o. slot-rooted (view_of c.args.self.now) d (g.D.Device.state c.args.device.now) (g.D.Device.state c.commit.new.device) o c.in-Ok.ensures.confined
-
-pub returns-in-Err-clause-rooted : goal.returns-in-Err-clause-rooted
-returns-in-Err-clause-rooted g c = λ d o. slot-rooted (view_of c.args.self.now) d (g.D.Device.state c.args.device.now) (g.D.Device.state c.commit.new.device) o c.in-Err.ensures.confined
 
 pub returns-in-Ok-clause-whole : goal.returns-in-Ok-clause-whole
 returns-in-Ok-clause-whole g c = λ d o. commit-whole (view_of c.args.self.now) d _ _ _ (c.args.self.now.kept c.requires.up) o c.in-Ok.ensures.any_moment c.in-Ok.ensures.confined (λ idle. ap g.D.Device.state (c.in-Ok.ensures.idle idle).1)

@@ -6,7 +6,7 @@ use Rattle.lt_format.specs.declared.header.Header.{Header}
 use Rattle.lt_format.specs.Snapshot.{Manifest}
 use Rattle.lt_format.specs.Trie.{all_distinct}
 use Rattle.lt_language.specs.Machine.{State}
-use Rattle.lt_manifest.specs.Promise.{Names}
+use Rattle.lt_format.specs.Snapshot.{Names}
 use Rattle.lt_redo.specs.LogState.{other_area}
 use Rattle.lt_tables.specs.Cut.{cut}
 use Rattle.lt_tables.specs.Table.{newest}
@@ -17,7 +17,6 @@ use Rattle.lt_store.proofs.CommitLaws.{kept-fits}
 use Rattle.lt_store.proofs.FlushLaws.{Fits, commit-stays, flushed-open, flushed-view, placed-behind}
 use Rattle.lt_store.proofs.MomentLaws.{open-names, open-same}
 use Rattle.lt_store.proofs.PrepareLaws.{may-flush}
-use Rattle.lt_store.proofs.RootedLaws.{rooted-none, commit-rooted}
 use Rattle.lt_store.proofs.SameLaws.{same-names}
 use Rattle.lt_store.proofs.store.Store.commit_flush.Goals as goal
 
@@ -84,7 +83,6 @@ returns-clause-opened g c = λ d o p.
 
 pub returns-in_err-from_slice-clause-installs : goal.returns-in_err-from_slice-clause-installs
 returns-in_err-from_slice-clause-installs g c = record {
-  rooted = λ d o. rooted-none (view_of c.args.self.now) d (g.D.Device.state c.args.device.now) o;
   committed = first_of (search rules, grind (arith, common_steps));
   stays_down = first_of (search rules, grind (arith, common_steps));
   refused = first_of (search rules, grind (arith, common_steps));
@@ -93,11 +91,6 @@ returns-in_err-from_slice-clause-installs g c = record {
 
 pub returns-in_err-commit-clause-installs : goal.returns-in_err-commit-clause-installs
 returns-in_err-commit-clause-installs g c = record {
-  rooted = λ d o.
-      let v : StoreView = view_of c.args.self.now in
-      let header : Header = record { log_area = 1 - c.header-header.result.log_area; extents = c.header-header.result.extents; writes = c.args.self.now.writes } in
-      let run = c.commit.ensures.any_moment o.rest.image o.rest.shown (each_names v d (g.D.Device.state c.args.device.now) o) in
-      commit-rooted v d (g.D.Device.state c.args.device.now) (g.D.Device.state c.commit.new.device) o c.of.result header run;
   committed = first_of (search rules, grind (arith, common_steps));
   stays_down = first_of (search rules, grind (arith, common_steps));
   refused = first_of (search rules, grind (arith, common_steps));
@@ -106,11 +99,6 @@ returns-in_err-commit-clause-installs g c = record {
 
 pub returns-clause-installs : goal.returns-clause-installs
 returns-clause-installs g c = record {
-  rooted = λ d o.
-      let v : StoreView = view_of c.args.self.now in
-      let header : Header = record { log_area = 1 - c.header-header.result.log_area; extents = c.header-header.result.extents; writes = c.args.self.now.writes } in
-      let run = c.commit.ensures.any_moment o.rest.image o.rest.shown (each_names v d (g.D.Device.state c.args.device.now) o) in
-      commit-rooted v d (g.D.Device.state c.args.device.now) (g.D.Device.state c.commit.new.device) o c.of.result header run;
   committed = first_of (search rules, grind (arith, common_steps));
   stays_down = first_of (search rules, grind (arith, common_steps));
   refused = first_of (search rules, grind (arith, common_steps));

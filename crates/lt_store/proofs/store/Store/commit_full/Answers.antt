@@ -1,7 +1,6 @@
 use Rattle.std.proofs.Common.{rules, sym, arith}
 use Rattle.lt_store.specs.View.{view_of}
 use Rattle.lt_store.proofs.GoLaws.{goes-none}
-use Rattle.lt_store.proofs.RootedLaws.{rooted-none}
 use Rattle.lt_store.proofs.TakeLaws.{readied-same}
 use Rattle.lt_store.proofs.WholeLaws.{whole-none}
 use Rattle.lt_store.specs.Open.{StoreView}
@@ -14,7 +13,6 @@ returns-then-bytes-le-FLUSH_BYTES-clause-commits g c =
     record {
       goes = λ d o. goes-none v d (g.D.Device.state c.args.device.now) o;
       whole = λ d o. whole-none v d (g.D.Device.state c.args.device.now) o;
-      rooted = λ d o. rooted-none v d (g.D.Device.state c.args.device.now) o;
       up = c.requires.up;
       err = search rules;
       calls = search rules;
@@ -28,7 +26,6 @@ pub returns-clause-commits : goal.returns-clause-commits
 returns-clause-commits g c = record {
   goes = c.commit.ensures.opened;
   whole = c.commit.ensures.whole;
-  rooted = c.commit.ensures.rooted;
   up = c.commit.ensures.up;
   err = c.commit.ensures.err;
   calls = c.commit.ensures.calls;

@@ -1,4 +1,4 @@
-use Rattle.std.proofs.Common.{rules, Some, Ok, ◌≡◌, ◌<◌, ◌≤◌, refl, ap, sym, subst, ◌∙◌, [], length, true, false, arith, vec_len}
+use Rattle.std.proofs.Common.{rules, Some, Ok, ◌≡◌, ◌<◌, ◌≤◌, refl, ap, sym, subst, ◌∙◌, [], length, true, false, arith}
 use Rattle.lt_image.proofs.CountLaws.{newest-few}
 use Rattle.lt_tables.proofs.NewestLaws.{newest-newest}
 use Rattle.lt_tables.specs.Table.{newest}
@@ -52,10 +52,8 @@ flush_into-requires-clause-reserved g c =
     let same : length c.deref-3.result.now ≡ length c.take.new.into.items = ap length c.deref-3.ensures.value in
     let len = c.len-2.ensures in
     let size = c.in_ok-tables.tables.ok.0 in
-    let old_ok = me.filters.ok.0 in
-    let old_len : length me.filters.items ≡ vec_len me.filters = omega (arith, old_ok) in
     record {
-      kept = record { taken = me.extents; kept = kept-along me.manifest me.log me.log me.memory me.memory me.extents me.extents _ (length me.filters.items) me.writes me.writes refl refl refl old_len refl kept };
+      kept = record { taken = me.extents; kept = kept };
       idle = c.requires.idle;
       some = omega (arith, count, tables, same, len, size);
       distinct = subst (λ xs. all_distinct xs ≡ true) (sym c.deref-3.ensures.value) (reserved-distinct me.manifest me.log me.memory me.extents c.take.new.self _ _ c.len-2.result c.take.new.into.items kept r);
@@ -95,15 +93,13 @@ invariant_of-self-in-Ok g c =
     let len = c.len-2.ensures in
     let size = c.in_ok-tables.tables.ok.0 in
     let some : 1 ≤ length c.take.new.into.items = omega (arith, count, tables, len, size) in
-    let filled : length new.filters.items ≡ length me.filters.items = c.in-Ok.ensures.installs.stays_down.room in
-    let new_len = new.filters.ok.0 in
-    let old_len = me.filters.ok.0 in
+    let filled : length new.filters ≡ length me.filters = c.in-Ok.ensures.installs.stays_down.room in
     let header : Header = flush_header v in
     let flushed_is = c.in-Ok.ensures.installs.committed.is in
     let manifest = c.in-Ok.ensures.installs.committed.manifest ∙ ap (λ xs. after_commit me.manifest.manifest (flush xs) header) c.deref-3.ensures.value in
     let k = flushed-kept me.manifest new.manifest me.log me.memory me.extents c.take.new.self _ _ c.len-2.result c.take.new.into.items header kept r some c.in-Ok.ensures.installs.committed.stands c.in-Ok.ensures.installs.stays_down.geometry manifest refl refl refl in
     record {
-      kept = λ up. kept-along new.manifest (flushed_log me.log header) new.log [] new.memory c.take.new.self new.extents _ _ _ _ (ap (λ (w : StoreView). w.log) flushed_is) (ap (λ (w : StoreView). w.memory) flushed_is) c.in-Ok.ensures.installs.stays_down.same_extents (omega (arith, filled, new_len, old_len)) c.in-Ok.ensures.installs.stays_down.same_writes k;
+      kept = λ up. kept-along new.manifest (flushed_log me.log header) new.log [] new.memory c.take.new.self new.extents _ _ _ _ (ap (λ (w : StoreView). w.log) flushed_is) (ap (λ (w : StoreView). w.memory) flushed_is) c.in-Ok.ensures.installs.stays_down.same_extents filled c.in-Ok.ensures.installs.stays_down.same_writes k;
       refused_is = λ up short is. absurd (c.in_default.not-Some short (sym c.flush_into.ensures.installs.refused ∙ is));
     }
 
@@ -113,19 +109,14 @@ invariant_of-self-in-Err-NoMemory g c =
     let kept = me.kept c.requires.up in
     let r = subst (λ xs. Reserves c.len-2.result me.extents c.take.new.self xs c.take.new.into.items) c.in_ok-numbers.ensures.items c.in_default-take.ensures.ok in
     let new = c.flush_into.new.self in
-    let new_ok = new.filters.ok.0 in
-    let old_ok = me.filters.ok.0 in
-    let new_len : length new.filters.items ≡ vec_len new.filters = omega (arith, new_ok) in
-    let old_len : length me.filters.items ≡ vec_len me.filters = omega (arith, old_ok) in
-    let before = kept-along me.manifest me.log me.log me.memory me.memory me.extents me.extents _ (length me.filters.items) me.writes me.writes refl refl refl old_len refl kept in
-    let k' = c.in-Err-NoMemory.ensures.kept (search rules) me.extents before in
+    let k' = c.in-Err-NoMemory.ensures.kept (search rules) me.extents kept in
     let numbers : c.deref-in-Err-NoMemory.result.now ≡ c.take.new.into.items = c.deref-in-Err-NoMemory.ensures.value in
     let taken : new.extents ≡ c.take.new.self = c.in-Err-NoMemory.ensures.installs.stays_down.same_extents in
     let size : length c.give_back.new.extents ≡ length c.take.new.self = c.give_back.ensures.extents ∙ ap length taken in
     record {
-      kept = λ up. kept-along new.manifest new.log new.log new.memory new.memory c.give_back.new.extents c.give_back.new.extents (length new.filters.items) _ new.writes new.writes refl refl refl (sym new_len) refl
-          (back-kept me.manifest new.manifest me.log new.log me.memory new.memory me.extents c.take.new.self c.give_back.new.extents _ (length new.filters.items) me.writes new.writes c.len-2.result c.take.new.into.items kept k' r size
-          (λ x small. subst (λ ns. is_free c.give_back.new.extents x ≡ (is_free c.take.new.self x || is_in x ns)) numbers (subst (λ e. is_free c.give_back.new.extents x ≡ (is_free e x || is_in x c.deref-in-Err-NoMemory.result.now)) taken (c.give_back.ensures.free x (subst (λ e. x < length e) (sym taken) small)))));
+      kept = λ up.
+          back-kept me.manifest new.manifest me.log new.log me.memory new.memory me.extents c.take.new.self c.give_back.new.extents _ (length new.filters) me.writes new.writes c.len-2.result c.take.new.into.items kept k' r size
+          (λ x small. subst (λ ns. is_free c.give_back.new.extents x ≡ (is_free c.take.new.self x || is_in x ns)) numbers (subst (λ e. is_free c.give_back.new.extents x ≡ (is_free e x || is_in x c.deref-in-Err-NoMemory.result.now)) taken (c.give_back.ensures.free x (subst (λ e. x < length e) (sym taken) small))));
       refused_is = λ up short is. absurd (c.in_default.not-Some short (sym c.flush_into.ensures.installs.refused ∙ is));
     }
 
@@ -160,7 +151,6 @@ returns-in-Err-clause-lives g c =
     let none = unflushed g.D.Device c.args.self.now c.args.self.now (Ok (Some c.in-Err.short)) c.args.device.now refl c.requires.up (search rules) in
     record {
       stays = none.stays;
-      rooted = none.rooted;
       opened = λ on d o. open-alike (view_of c.args.self.now) d (g.D.Device.state c.args.device.now) c.args.self.now.is_up c.take.new.self o;
       up = none.up;
       writes = refl;
@@ -173,7 +163,6 @@ returns-in-Ok-clause-lives g c =
     let v : StoreView = view_of c.args.self.now in
     record {
       stays = λ d o. c.in-Ok.ensures.stays d (open-alike v d (g.D.Device.state c.args.device.now) false c.take.new.self o);
-      rooted = λ d o. c.flush_into.ensures.installs.rooted d (open-alike v d (g.D.Device.state c.args.device.now) false c.take.new.self o);
       opened = λ ok d o.
           open-alike (view_of c.flush_into.new.self) d (g.D.Device.state c.flush_into.new.device) true c.flush_into.new.self.extents
           (c.in-Ok.ensures.opened d (open-alike v d (g.D.Device.state c.args.device.now) false c.take.new.self o));
@@ -193,7 +182,6 @@ returns-in-Err-NoMemory-clause-lives g c =
     let v : StoreView = view_of c.args.self.now in
     record {
       stays = λ d o. c.flush_into.ensures.stays d (open-alike v d (g.D.Device.state c.args.device.now) false c.take.new.self o);
-      rooted = λ d o. c.flush_into.ensures.installs.rooted d (open-alike v d (g.D.Device.state c.args.device.now) false c.take.new.self o);
       opened = λ none d o.
           open-alike (view_of c.flush_into.new.self) d (g.D.Device.state c.flush_into.new.device) true c.give_back.new.extents
           (c.in-Err-NoMemory.ensures.opened_again (search rules) d (open-alike v d (g.D.Device.state c.args.device.now) false c.take.new.self o));
@@ -208,7 +196,6 @@ returns-clause-lives g c =
     let v : StoreView = view_of c.args.self.now in
     record {
       stays = λ d o. c.flush_into.ensures.stays d (open-alike v d (g.D.Device.state c.args.device.now) false c.take.new.self o);
-      rooted = λ d o. c.flush_into.ensures.installs.rooted d (open-alike v d (g.D.Device.state c.args.device.now) false c.take.new.self o);
       opened = search rules;
       up = search rules;
       writes = search rules;

@@ -3,7 +3,7 @@ use Rattle.lt_device.specs.Moments.{MayLeave}
 use Rattle.lt_tables.specs.Cut.{table_total}
 use Rattle.lt_tables.specs.Table.{newest}
 use Rattle.lt_store.specs.Open.{StoreView}
-use Rattle.lt_image.specs.Counts.{IsFullImage}
+use Rattle.lt_image.specs.Pressure.{IsFullImage}
 use Rattle.lt_store.specs.Taking.{is_due}
 use Rattle.lt_store.specs.View.{view_of}
 use Rattle.lt_store.proofs.FullLaws.{full-image, few-extents}

@@ -32,19 +32,19 @@ returns-in_err-log-clause-at_rest g c = λ s rest b is. rest-whole s (g.D.Device
 pub returns-in_err-filters-clause-calls : goal.returns-in_err-filters-clause-calls
 returns-in_err-filters-clause-calls g c =
     let all = reads_more (few-reads c.in_ok-manifest.manifest.geometry _ c.in_ok-manifest.manifest.manifest c.in_ok-manifest.ensures.valid c.in_ok-manifest.ensures.stands)
-    (reads_more {k = 307 + 2 * c.in_ok-manifest.manifest.geometry.slots} (omega arith) c.read_manifest.ensures.calls c.read_log.ensures.calls) c.root_filters.ensures.calls in
+    (reads_more {k = 307 + 2 * c.in_ok-manifest.manifest.geometry.slots} (omega arith) c.read_manifest.ensures.calls c.read_log.ensures.calls) c.inner_filters.ensures.calls in
     record {
       state = all.state;
       size = all.size;
       count = all.count;
       later = all.later;
-      cause = λ failed. let rose = c.root_filters.ensures.calls.cause (search rules) in omega (arith, c.read_manifest.ensures.calls.later, c.read_log.ensures.calls.later, rose);
+      cause = λ failed. let rose = c.inner_filters.ensures.calls.cause (search rules) in omega (arith, c.read_manifest.ensures.calls.later, c.read_log.ensures.calls.later, rose);
     }
 
 pub returns-in_err-of-clause-calls : goal.returns-in_err-of-clause-calls
 returns-in_err-of-clause-calls g c =
     let all = reads_more (few-reads c.in_ok-manifest.manifest.geometry _ c.in_ok-manifest.manifest.manifest c.in_ok-manifest.ensures.valid c.in_ok-manifest.ensures.stands)
-    (reads_more {k = 307 + 2 * c.in_ok-manifest.manifest.geometry.slots} (omega arith) c.read_manifest.ensures.calls c.read_log.ensures.calls) c.root_filters.ensures.calls in
+    (reads_more {k = 307 + 2 * c.in_ok-manifest.manifest.geometry.slots} (omega arith) c.read_manifest.ensures.calls c.read_log.ensures.calls) c.inner_filters.ensures.calls in
     record {
       state = all.state;
       size = all.size;
@@ -56,7 +56,7 @@ returns-in_err-of-clause-calls g c =
 pub returns-clause-calls : goal.returns-clause-calls
 returns-clause-calls g c =
     let all = reads_more (few-reads c.in_ok-manifest.manifest.geometry _ c.in_ok-manifest.manifest.manifest c.in_ok-manifest.ensures.valid c.in_ok-manifest.ensures.stands)
-    (reads_more {k = 307 + 2 * c.in_ok-manifest.manifest.geometry.slots} (omega arith) c.read_manifest.ensures.calls c.read_log.ensures.calls) c.root_filters.ensures.calls in
+    (reads_more {k = 307 + 2 * c.in_ok-manifest.manifest.geometry.slots} (omega arith) c.read_manifest.ensures.calls c.read_log.ensures.calls) c.inner_filters.ensures.calls in
     record {
       state = all.state;
       size = all.size;
@@ -68,21 +68,21 @@ returns-clause-calls g c =
 pub returns-clause-room : goal.returns-clause-room
 returns-clause-room g c =
     let room = assembled-room c.in_ok-manifest.manifest.geometry _ c.in_ok-manifest.manifest _ _ _ _ refl c.in_ok-manifest.ensures.stands c.in_ok-of.ensures in
-    omega (arith, room, c.root_filters.ensures.calls.size, c.read_log.ensures.calls.size, c.read_manifest.ensures.calls.size)
+    omega (arith, room, c.inner_filters.ensures.calls.size, c.read_log.ensures.calls.size, c.read_manifest.ensures.calls.size)
 
 pub returns-clause-reads : goal.returns-clause-reads
 returns-clause-reads g c = λ image shown.
     let after_manifest = ap (λ (s : told.State). s.shown) c.read_manifest.ensures.calls.state ∙ shown in
     let after_log = ap (λ (s : told.State). s.shown) c.read_log.ensures.calls.state ∙ after_manifest in
-    assembled-reads image c.in_ok-manifest.manifest.geometry c.in_ok-manifest.manifest c.in_ok-log.log c.in_ok-log.items.items c.deref.result.now c.in_ok-filters.filters.items _
+    assembled-reads image c.in_ok-manifest.manifest.geometry c.in_ok-manifest.manifest c.in_ok-log.log c.in_ok-log.items.items c.deref.result.now c.in_ok-filters.filters _
     refl (c.in_ok-manifest.ensures.read image shown) c.in_ok-log.ensures.log.is (c.in_ok-log.ensures.read image after_manifest) c.deref.ensures.value (c.in_ok-filters.ensures.filters image after_log) c.in_ok-of.ensures
 
 pub returns-clause-opened : goal.returns-clause-opened
 returns-clause-opened g c = λ s r.
     let v = view_of c.in_ok-of.field-0 in
     let before = g.D.Device.state c.args.device.now in
-    let same = c.root_filters.ensures.calls.state ∙ c.read_log.ensures.calls.state ∙ c.read_manifest.ensures.calls.state in
+    let same = c.inner_filters.ensures.calls.state ∙ c.read_log.ensures.calls.state ∙ c.read_manifest.ensures.calls.state in
     let reads = returns-clause-reads g c in (
-      subst (λ d. IsOpen v s d) (sym same) (rest-open v s before r.rest r.root_only reads),
-      ap (λ (n : Named). n.manifest.header.extents) (sym (rest-named v s before r.rest reads)),
+      subst (λ d. IsOpen v s d) (sym same) (rest-open v s before r reads),
+      ap (λ (n : Named). n.manifest.header.extents) (sym (rest-named v s before r reads)),
     )

@@ -4,11 +4,10 @@ use Rattle.lt_terms.specs.Items.{item_cost}
 use Rattle.lt_store.specs.Going.{Goes, appended}
 use Rattle.lt_store.specs.Flushing.{IsFlushed}
 use Rattle.lt_store.specs.Open.{StoreView}
-use Rattle.lt_image.specs.Counts.{IsFullImage}
+use Rattle.lt_image.specs.Pressure.{IsFullImage}
 use Rattle.lt_store.specs.Taking.{is_due, readied}
 use Rattle.lt_store.specs.View.{view_of}
 use Rattle.lt_store.proofs.GoLaws.{goes-none, goes-stays, goes-append}
-use Rattle.lt_store.proofs.RootedLaws.{rooted-none, rooted-joins}
 use Rattle.lt_store.proofs.TakeLaws.{full-alike, no-memory-up}
 use Rattle.lt_store.proofs.WholeLaws.{whole-behind, whole-none}
 use Rattle.std.proofs.lemmas.Bool.{true_from_ne_false}
@@ -23,8 +22,7 @@ returns-then-self g c =
       full = search rules;
       whole = λ d o. whole-none v d (g.D.Device.state c.args.device.now) o;
       writes = search rules;
-      while_rooted = record {
-        rooted = λ d o. rooted-none v d (g.D.Device.state c.args.device.now) o;
+      in_place = record {
         flushed = search rules;
         full_same = search rules;
         full_quiet = search rules;
@@ -41,8 +39,7 @@ returns-in_err-commit_full g c = record {
   full = search rules;
   whole = c.commit_full.ensures.commits.whole;
   writes = search rules;
-  while_rooted = record {
-    rooted = c.commit_full.ensures.commits.rooted;
+  in_place = record {
     flushed = search rules;
     full_same = search rules;
     full_quiet = search rules;
@@ -86,8 +83,7 @@ returns-in_err-flush_due g c =
             goes-stays v [] w (view_of c.flush_due.new.self) d s0 s1 s2 went (c.flush_due.ensures.pending (up (search rules))) (lives.opened (up (search rules)) _ went.opened) (lives.stays _ went.opened);
         full_images = search rules;
       };
-      while_rooted = record {
-        rooted = λ d o. rooted-joins s0 s1 s2 (lives.rooted _ (committed.goes d o).opened) (committed.rooted d o);
+      in_place = record {
         flushed = search rules;
         full_same = search rules;
         full_quiet = search rules;
@@ -134,8 +130,7 @@ returns-in-None g c =
         refused = search rules;
         full_images = search rules;
       };
-      while_rooted = record {
-        rooted = λ d o. rooted-joins s0 s1 s2 (lives.rooted _ (committed.goes d o).opened) (committed.rooted d o);
+      in_place = record {
         flushed = λ due is d o.
             let went = committed.goes d o in
             let flushed = c.flush_due.ensures.flushed (subst (λ (z : StoreView). is_due z ≡ true) (sym ready) due) (search rules) _ went.opened in
@@ -188,8 +183,7 @@ returns-in-Some g c =
             let (images, few) = c.in_ok-flush_due.ensures.full_images c.in-Some.field-0 (ap Ok c.in-Some.is) _ went.opened in
             ((λ left may. full-alike (IsFullImage left) c.in-Some.field-0.needed c.in-Some.field-0.free needed free same (images left may)), omega (arith, few, extents, writes));
       };
-      while_rooted = record {
-        rooted = λ d o. rooted-joins s0 s1 s2 (lives.rooted _ (committed.goes d o).opened) (committed.rooted d o);
+      in_place = record {
         flushed = search rules;
         full_same = λ needed free is. (c.in_ok-flush_due.ensures.short c.in-Some.field-0 (ap Ok c.in-Some.is)).0 ∙ ready;
         full_quiet = λ needed free is idle. (c.in_ok-flush_due.ensures.short c.in-Some.field-0 (ap Ok c.in-Some.is)).1 ∙ c.commit_full.ensures.idle idle;

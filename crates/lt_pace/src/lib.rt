@@ -1,0 +1,11 @@
+//! Which node of the trie is to be dealt or rewritten next, and what is remembered of its nodes between jobs.
+#![tactic(auto)]
+
+mod candidates;
+mod laws;
+mod marks;
+
+pub use candidates::{first_full, first_slack};
+pub use laws::{marks_are_apart, nothing_left};
+pub use lt_format::NodeId;
+pub use marks::Marks;
