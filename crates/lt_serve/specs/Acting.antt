@@ -2,14 +2,16 @@
 use Rattle.std.specs.Prelude.{◌≡◌, ℕ, ◌≤◌, Bool, true, false, ◌||◌, List, [], ◌∷◌, take, length, Result, Ok, Err, Some}
 use Rattle.lt_terms.specs.Items.{Item}
 use Rattle.lt_terms.specs.Bytes.{Image}
+use Rattle.lt_device.specs.declared.device.Device.{Ghosts}
 use Rattle.lt_device.specs.Moments.{MayLeave}
 use Rattle.lt_image.specs.Standing.{HasCounts, after_writes}
 use Rattle.lt_language.specs.declared.Bad.{Bad}
 use Rattle.lt_language.specs.Commands as commands
-use Rattle.lt_language.specs.Commands.{Command}
+use Rattle.lt_language.specs.Commands.{Command, command_of as command_of_line}
 use Rattle.lt_language.specs.Valid.{IsWithinLimits}
 use Rattle.lt_language.specs.Machine.{State}
 use Rattle.lt_language.specs.Replies.{Reply, text}
+use Rattle.lt_line.specs.Held.{kept_of}
 use Rattle.lt_line.specs.Waiting.{Waiting, with_text, all_settled}
 use Rattle.lt_serve.specs.declared.faults.RoundFault.{RoundFault}
 use Rattle.lt_serve.specs.declared.faults.RoundFault.TheVariants as faults
@@ -17,9 +19,11 @@ use Rattle.lt_serve.specs.Faults.{IsLost}
 use Rattle.lt_store.specs.declared.acting.EventView.{EventView}
 use Rattle.lt_store.specs.Acting.{MayAct, command_of}
 use Rattle.lt_store.specs.Going.{Goes, Survives}
-use Rattle.lt_store.specs.Open.{StoreView, extents_of, state_of}
+use Rattle.lt_store.specs.Open.{IsOpen, StoreView, extents_of, state_of}
 use Rattle.lt_store.specs.Promise.{AtRest}
-use Rattle.lt_serve.specs.Promise.{KeepsPast, Moment, OnStat, ReadsRise, Runs, TellsCounts, is_ok}
+use Rattle.lt_serve.specs.Promise.{KeepsPast, Moment, OnStat, ReadsRise, Runs, TellsCounts, is_ok, moment_of}
+use Rattle.lt_serve.specs.View.{kept_in, store_in}
+use Rattle.lt_serve.specs.declared.session.Session.{Session}
 
 -- What the reply to a command tells, where it is a `STAT`: the count of reads, which does not fall, and the tables and
 -- free extents of each image that a crash may leave, where few writes are pending. A past that was told still is.
@@ -53,6 +57,17 @@ pub record Lost (v : StoreView) (durable : State) (fault : RoundFault) (old new 
   -- and the count of reads did not fall
   pub counts : TellsCounts durable [] [] old new
 
+-- where the store is open on the device, the command was answered
+abbrev pub AnswersWhereOpen : {D : Type 0} → Ghosts D → StoreView → Command → Bool → Waiting → Waiting → StoreView → D
+    → D → Type 0
+AnswersWhereOpen d v command taken waiting0 waiting w old new = (durable : State) → IsOpen v durable (d.state old)
+    → Answers v durable command taken waiting0 waiting w (moment_of d old) (moment_of d new)
+
+-- where the store is open on the device, the command was not answered, and nothing is lost
+abbrev pub LostWhereOpen : {D : Type 0} → Ghosts D → StoreView → RoundFault → D → D → Type 0
+LostWhereOpen d v fault old new = (durable : State) → IsOpen v durable (d.state old)
+    → Lost v durable fault (moment_of d old) (moment_of d new)
+
 -- all of it is settled as long as no write was taken
 abbrev pub settled_unless : Bool → Waiting → Waiting
 settled_unless true w = w
@@ -72,6 +87,13 @@ pub record Answered (v : StoreView) (durable : State) (command : Command) (wrote
   pub wrote_is : wrote ≡ (wrote0 || is_ok reply)
   pub fits : length (text reply) ≤ waiting0.room
   pub told : waiting ≡ settled_unless wrote (with_text waiting0 (text reply))
+
+-- where the session's store is open on the device, the line that it holds was answered
+abbrev pub AnswersHeld : {D : Type 0} → Ghosts D → Session → Session → Waiting → Waiting → D → D → Type 0
+AnswersHeld d s t waiting0 waiting old new = (line : List ℕ) (durable : State) → kept_in s ≡ kept_of line
+    → IsOpen (store_in s) durable (d.state old)
+    → Answered (store_in s) durable (command_of_line line) s.wrote t.wrote waiting0 waiting (store_in t)
+    (moment_of d old) (moment_of d new)
 
 -- the event is the command's, and it may be acted where the command keeps to its limits; a refused line is no event
 abbrev pub IsEventOf : Command → Result EventView Bad → Type 0

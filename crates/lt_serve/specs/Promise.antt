@@ -1,7 +1,7 @@
 -- What serving promises: which lines were acted, what was answered and shown, and what the device may hold.
 use Rattle.std.specs.Prelude.{◌⊎◌, Result}
 use Rattle.std.specs.Prelude.{◌≡◌, ℕ, ◌+◌, ◌-◌, Bool, true, false, List, [], ◌∷◌, length, nat_le, if◌then◌else◌}
-use Rattle.std.specs.Prelude.{◌≤◌, ◌++◌, take, Option, Some, Ok, Err}
+use Rattle.std.specs.Prelude.{◌≤◌, ◌^◌, ◌++◌, take, Option, Some, Ok, Err}
 use Rattle.lt_htable.specs.declared.faults.LookFault.{LookFault}
 use Rattle.lt_htable.specs.declared.faults.LookFault.TheVariants.{Damaged}
 use Rattle.lt_store.specs.Promise.{RepliesSeen}
@@ -17,7 +17,7 @@ use Rattle.lt_image.specs.Standing.{after_writes, IsPrefix}
 use Rattle.lt_serve.specs.declared.served.Served.{Served}
 use Rattle.lt_serve.specs.declared.served.Served.TheVariants as served
 use Rattle.lt_terms.specs.Bytes.{Image}
-use Rattle.lt_terms.specs.Causes.{Rose}
+use Rattle.lt_terms.specs.Causes.{Rose, RoseBy}
 use Rattle.lt_device.specs.Moments.{LeftSince, Leaves, MayLeave, clock}
 use Rattle.lt_device.specs.State as told
 use Rattle.lt_device.specs.State.{Epoch}
@@ -211,6 +211,16 @@ pub record GivesTo {K : Type 0} (k : Sinks K) (failed : Type 0) (old new : K) : 
 pub record FailsOn {D : Type 0} (d : Devices D) (failed : Type 0) (old new : D) : Type 0 where
   pub later : d.faults old ≤ d.faults new
   pub cause : failed → Rose (d.faults old) (d.faults new)
+
+-- An answer that tells of a fault comes only where its count rose, and one that tells of too many pieces only where so
+-- many were taken; no call takes more. The sink took some bytes, and no count falls.
+pub record IsCaused {S K D : Type 0} (u : Sources S) (k : Sinks K) (d : Devices D) (status : Served)
+    (source0 source1 : S) (sink0 sink1 : K) (old new : D) : Type 0 where
+  pub turns : status ≡ served.Turns → RoseBy (2 ^ 48) (u.pieces source0) (u.pieces source1)
+  pub pieces : u.pieces source1 ≤ u.pieces source0 + 2 ^ 48
+  pub source : TakesFrom u (status ≡ served.Source) source0 source1
+  pub sink : GivesTo k (status ≡ served.Sink) sink0 sink1
+  pub device : FailsOn d (status ≡ served.Device) old new
 
 -- A store of e extents that stands for `before` was served until this status, from nothing taken and nothing shown;
 -- and the status names no damaged block.

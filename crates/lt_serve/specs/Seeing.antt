@@ -7,7 +7,7 @@ use Rattle.lt_device.specs.State as told
 use Rattle.lt_io.specs.declared.sink.Sink.{Ghosts as Sinks}
 use Rattle.lt_io.specs.declared.source.Source.{Ghosts as Sources}
 use Rattle.lt_io.specs.Streams.{Gains, Takes}
-use Rattle.lt_language.specs.Commands.{Command, commands, rest_of, has_line_feed}
+use Rattle.lt_language.specs.Commands.{Command, command_of, commands, rest_of, has_line_feed}
 use Rattle.lt_language.specs.Replies.{Reply, text, texts}
 use Rattle.lt_line.specs.Held.{kept_of}
 use Rattle.lt_line.specs.Waiting.{Waiting, with_text}
@@ -18,7 +18,7 @@ use Rattle.lt_serve.specs.declared.faults.RoundFault.TheVariants as faults
 use Rattle.lt_serve.specs.declared.served.Served.{Served}
 use Rattle.lt_serve.specs.declared.session.Session.{Session}
 use Rattle.lt_serve.specs.Acting.{settled_unless}
-use Rattle.lt_serve.specs.Promise.{AnswersSeen, AreSeen, BeginsWithOk, IsSeenReply, Sight, StopsNext, WritesNext, is_ok}
+use Rattle.lt_serve.specs.Promise.{AnswersSeen, AreSeen, BeginsWithOk, IsSeenReply, ServesSeen, Sight, StopsNext, WritesNext, is_ok}
 use Rattle.lt_serve.specs.Rounds.{ActsFurther, ActsLines, StopsFurther, StopsInLines, all_text}
 use Rattle.lt_serve.specs.Serving.{EndsIn, GoesOnBy, TurnsOn, TurnsOver}
 use Rattle.lt_serve.specs.View.{kept_in, store_in}
@@ -56,6 +56,16 @@ pub record TellsLine (v : StoreView) (command : Command) (wrote0 wrote : Bool) (
   pub tells : Tells v command taken waiting0 unsettled w old new
   pub wrote_is : wrote ≡ (wrote0 || taken)
   pub settled : waiting ≡ settled_unless wrote unsettled
+
+-- on any device the line that the session holds was answered
+abbrev pub TellsHeld : {D : Type 0} → Ghosts D → Session → Session → Waiting → Waiting → D → D → Type 0
+TellsHeld d s t waiting0 waiting old new = (line : List ℕ) → kept_in s ≡ kept_of line
+    → TellsLine (store_in s) (command_of line) s.wrote t.wrote waiting0 waiting (store_in t) (d.state old) (d.state new)
+
+-- on any device the line that the session holds named this block as damaged: it is a get that stops at it, or a write
+abbrev pub StopsHeld : {D : Type 0} → Ghosts D → Session → D → ℕ → Type 0
+StopsHeld d s old b = (line : List ℕ) → kept_in s ≡ kept_of line
+    → StopsAt (store_in s) (command_of line) (d.state old) b
 
 -- The lines of the bytes were answered on any device. The replies before the first `OK` are settled and tell what is
 -- seen; the text behind them begins with that `OK`. Where there is none, all is as before.
@@ -157,6 +167,18 @@ SeesEnd d k s status bytes sink0 sink old = (v : StoreView) (image : Image) (inp
     → start.shown ≡ Some image
     → SeesLines (seen_of v image) input output (StaysBehind input (kept_in s) v (store_in s) start (d.state old))
     → EndsSeen (seen_of v image) status (input ++ bytes) output (k.stands sink0) (k.stands sink)
+
+-- on any blocks, from wherever serving has got to, it ends at the end of input
+abbrev pub SeesEndOfInput : {K : Type 0} → Sinks K → Session → Served → K → K → Type 0
+SeesEndOfInput k s status sink0 sink = (v : StoreView) (image : Image) (input output : List ℕ) (start now : told.State)
+    → SeesLines (seen_of v image) input output (StaysBehind input (kept_in s) v (store_in s) start now)
+    → EndsSeen (seen_of v image) status input output (k.stands sink0) (k.stands sink)
+
+-- on a device that tells its blocks, what was taken of the source was answered by what is seen of the keys on them
+abbrev pub ServesAsSeen : {S K D : Type 0} → Sources S → Sinks K → Ghosts D → (Image → Sight) → Served → S → S → K → K
+    → D → Type 0
+ServesAsSeen u k d sight status source0 source sink0 sink old = (image : Image) → (d.state old).shown ≡ Some image
+    → ServesSeen (sight image) status (u.left source0) (u.left source) (k.stands sink0) (k.stands sink)
 
 -- on any blocks, from wherever serving has got to, it goes on by what was taken of the source
 abbrev pub SeesTurn : {S K D : Type 0} → Sources S → Sinks K → Ghosts D → Session → Session → S → S → K → K → D → D

@@ -69,6 +69,13 @@ EndsIn d k s status bytes sink0 sink old new = (before : State) (input output : 
     → IsHalt status × SteppedOver (extents_of (store_in s)) before status (input ++ bytes) output (k.stands sink0)
     (k.stands sink) (k.faults sink0) (k.faults sink) start (moment_of d new)
 
+-- from wherever serving has got to, it ends at the end of input
+abbrev pub EndsInput : {K : Type 0} → Sinks K → Session → Served → K → K → Type 0
+EndsInput k s status sink0 sink = (e : ℕ) (before : State) (input output : List ℕ) (start now : Moment)
+    → Reached e before input output (kept_in s) (store_in s) start now
+    → SteppedOver e before status input output (k.stands sink0) (k.stands sink) (k.faults sink0) (k.faults sink) start
+    now
+
 -- from wherever serving has got to, it goes on by what was taken of the source
 abbrev pub TurnsOn : {S K D : Type 0} → Sources S → Sinks K → Devices D → Session → Session → S → S → K → K → D → D
     → Type 0

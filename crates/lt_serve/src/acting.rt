@@ -1,16 +1,14 @@
 //! Acting a command: the store's event, and the text of its reply, which is not settled.
 
 ghost use Rattle.std.specs.Prelude.{◌≡◌, ℕ, ◌≤◌, true, IfErr, IfOk, IsErrOf, OnErr, OnOk, take};
-ghost use Rattle.lt_language.specs.Machine.{State};
 ghost use Rattle.lt_language.specs.Valid.{IsWithinLimits};
 ghost use Rattle.lt_line.specs.View.{view_of as command_in};
-ghost use Rattle.lt_store.specs.Open.{IsOpen, blocks_of};
+ghost use Rattle.lt_store.specs.Open.{blocks_of};
 ghost use Rattle.lt_store.specs.View.{view_of};
-ghost use Rattle.lt_serve.specs.Acting.{Answers, IsEventOf, Lost};
+ghost use Rattle.lt_serve.specs.Acting.{AnswersWhereOpen, IsEventOf, LostWhereOpen};
 ghost use Rattle.lt_serve.specs.Calls.{ActsOn};
 ghost use Rattle.lt_serve.specs.Faults.{round_fault_of};
 ghost use Rattle.lt_serve.specs.Outcomes.{HasValue, is_taken, most_text};
-ghost use Rattle.lt_serve.specs.Promise.{moment_of};
 ghost use Rattle.lt_serve.specs.Seeing.{StopsAt, Tells};
 
 use crate::outcomes::{add_bad, add_outcome};
@@ -34,14 +32,10 @@ pub(super) fn act_command<D: Device>(
     requires within { blocks_of (view_of store.old) ≤ D.blocks device.old }
     requires room { most_text ≤ out.old.room }
 
-    ensures ok { IfOk result (λ taken. (durable : State)
-        → IsOpen (view_of store.old) durable (D.state device.old)
-        → Answers (view_of store.old) durable (command_in command.now) taken out.old out.new
-        (view_of store.new) (moment_of D.Device device.old) (moment_of D.Device device.new)) }
-    ensures err { IfErr result (λ fault. (durable : State)
-        → IsOpen (view_of store.old) durable (D.state device.old)
-        → Lost (view_of store.old) durable (round_fault_of fault) (moment_of D.Device device.old)
-        (moment_of D.Device device.new)) }
+    ensures ok { IfOk result (λ taken. AnswersWhereOpen D.Device (view_of store.old) (command_in command.now)
+        taken out.old out.new (view_of store.new) device.old device.new) }
+    ensures err { IfErr result (λ fault. LostWhereOpen D.Device (view_of store.old) (round_fault_of fault)
+        device.old device.new) }
     ensures untold { OnErr result (out.new ≡ out.old) }
     ensures up { OnOk result (store.new.is_up ≡ true) }
     ensures tells { IfOk result (λ taken. Tells (view_of store.old) (command_in command.now) taken

@@ -1,19 +1,15 @@
 //! Rounds: the lines of a piece are acted as one group of writes.
 
-ghost use Rattle.std.specs.Prelude.{◌≡◌, ℕ, ◌<◌, ◌≤◌, true, false, List, []};
+ghost use Rattle.std.specs.Prelude.{◌≡◌, ℕ, ◌<◌, ◌≤◌, true, false, []};
 ghost use Rattle.std.specs.Prelude.{length, take, IfErr, IfOk, IsErrOf, OnErr, OnOk};
-ghost use Rattle.lt_language.specs.Commands.{command_of};
-ghost use Rattle.lt_language.specs.Machine.{State};
-ghost use Rattle.lt_line.specs.Held.{kept_of};
 ghost use Rattle.lt_line.specs.Waiting.{all_settled};
-ghost use Rattle.lt_store.specs.Open.{IsOpen, blocks_of};
-ghost use Rattle.lt_serve.specs.Acting.{Answered, Lost};
+ghost use Rattle.lt_store.specs.Open.{blocks_of};
+ghost use Rattle.lt_serve.specs.Acting.{AnswersHeld, LostWhereOpen};
 ghost use Rattle.lt_serve.specs.Calls.{RoundActs};
 ghost use Rattle.lt_serve.specs.Outcomes.{most_text};
-ghost use Rattle.lt_serve.specs.Promise.{moment_of};
 ghost use Rattle.lt_serve.specs.Rounds.{BeginsRound, IsActing, ServesLines, StopsInLines, TakesFront, all_text};
 ghost use Rattle.lt_serve.specs.Seeing.{AnswersFurther, AnswersLines, EndsFurther, FailsInLines, RoundFails};
-ghost use Rattle.lt_serve.specs.Seeing.{RoundSees, StopsAt, TellsLine};
+ghost use Rattle.lt_serve.specs.Seeing.{RoundSees, StopsHeld, TellsHeld};
 ghost use Rattle.lt_serve.specs.View.{kept_in, store_in};
 
 use crate::acting::act_command;
@@ -161,22 +157,11 @@ impl Session {
         requires within { blocks_of (store_in self.old) ≤ D.blocks device.old }
         requires room { most_text ≤ out.old.room }
 
-        ensures ok { OnOk result ((line : List ℕ) (durable : State)
-            → kept_in self.old ≡ kept_of line
-            → IsOpen (store_in self.old) durable (D.state device.old)
-            → Answered (store_in self.old) durable (command_of line) self.old.wrote self.new.wrote
-            out.old out.new (store_in self.new) (moment_of D.Device device.old)
-            (moment_of D.Device device.new)) }
-        ensures err { IfErr result (λ fault. (durable : State)
-            → IsOpen (store_in self.old) durable (D.state device.old)
-            → Lost (store_in self.old) durable fault (moment_of D.Device device.old)
-            (moment_of D.Device device.new)) }
-        ensures tells { OnOk result ((line : List ℕ) → kept_in self.old ≡ kept_of line
-            → TellsLine (store_in self.old) (command_of line) self.old.wrote self.new.wrote
-            out.old out.new (store_in self.new) (D.state device.old) (D.state device.new)) }
-        ensures stops { (b : ℕ) (line : List ℕ) → IsErrOf result (RoundFault.Damaged b)
-            → kept_in self.old ≡ kept_of line
-            → StopsAt (store_in self.old) (command_of line) (D.state device.old) b }
+        ensures ok { OnOk result (AnswersHeld D.Device self.old self.new out.old out.new device.old device.new) }
+        ensures err { IfErr result (λ fault. LostWhereOpen D.Device (store_in self.old) fault device.old device.new) }
+        ensures tells { OnOk result (TellsHeld D.Device self.old self.new out.old out.new device.old device.new) }
+        ensures stops { (b : ℕ) → IsErrOf result (RoundFault.Damaged b)
+            → StopsHeld D.Device self.old device.old b }
         ensures untold { OnErr result ((out.new ≡ out.old) × (self.new.lines ≡ self.old.lines)) }
         ensures next { OnOk result (kept_in self.new ≡ []) }
         ensures down { self.new.is_up ≡ false }

@@ -1,19 +1,18 @@
 //! The loop over the pieces of the source.
 
-ghost use Rattle.std.specs.Prelude.{◌≡◌, ◌⊎◌, ℕ, ◌+◌, ◌^◌, ◌<◌, ◌≤◌, true, List, []};
+ghost use Rattle.std.specs.Prelude.{◌≡◌, ◌⊎◌, ℕ, ◌<◌, ◌≤◌, true, []};
 ghost use Rattle.std.specs.Prelude.{length, take, IfErr, IfOk, IsErrOf, Ok, OnOk, Some};
-ghost use Rattle.lt_terms.specs.Causes.{RoseBy, next_count};
-ghost use Rattle.lt_device.specs.State as told;
+ghost use Rattle.lt_terms.specs.Causes.{next_count};
 ghost use Rattle.lt_language.specs.Machine.{State};
 ghost use Rattle.lt_line.specs.Waiting.{nothing_waits};
 ghost use Rattle.lt_store.specs.Promise.{AtRest, StopsOpening, seen_on};
-ghost use Rattle.lt_store.specs.Open.{IsOpen, StoreView, blocks_of, extents_of};
+ghost use Rattle.lt_store.specs.Open.{IsOpen, blocks_of, extents_of};
 ghost use Rattle.lt_serve.specs.Calls.{StopsGetOf, TurnActs};
 ghost use Rattle.lt_serve.specs.Faults.{IsEnd, IsStepEnd, IsTurnEnd};
-ghost use Rattle.lt_serve.specs.Promise.{FailsOn, FailsToOpen, FoundByGet, GivesTo, IsUnopened, ServesFrom};
-ghost use Rattle.lt_serve.specs.Promise.{Moment, ServesSeen, SteppedOver, TakesFrom};
-ghost use Rattle.lt_serve.specs.Seeing.{EndsSeen, SeesLines, StaysBehind, StepsOn, StepsOver, TakesOn, TakesOver};
-ghost use Rattle.lt_serve.specs.Serving.{IsReady, Reached};
+ghost use Rattle.lt_serve.specs.Promise.{FailsToOpen, FoundByGet, GivesTo, IsCaused, IsUnopened, ServesFrom};
+ghost use Rattle.lt_serve.specs.Promise.{ServesSeen, TakesFrom};
+ghost use Rattle.lt_serve.specs.Seeing.{SeesEndOfInput, ServesAsSeen, StepsOn, StepsOver, TakesOn, TakesOver};
+ghost use Rattle.lt_serve.specs.Serving.{EndsInput, IsReady};
 ghost use Rattle.lt_terms.specs.Bytes.{Image};
 ghost use Rattle.lt_image.specs.Versions.{Opened, open_image};
 ghost use Rattle.lt_store.specs.Getting.{seen_of};
@@ -100,14 +99,8 @@ fn finish<K: Sink>(session: &mut Session, replies: &mut Replies, sink: &mut K) -
     requires up { session.old.is_up ≡ true }
     requires none { replies.old ≡ nothing_waits }
 
-    ensures over { (e : ℕ) (before : State) (input output : List ℕ) (start now : Moment)
-        → Reached e before input output (kept_in session.old) (store_in session.old) start now
-        → SteppedOver e before result input output (K.stands sink.old) (K.stands sink.new)
-        (K.faults sink.old) (K.faults sink.new) start now }
-    ensures ends { (v : StoreView) (image : Image) (input output : List ℕ) (start now : told.State)
-        → SeesLines (seen_of v image) input output
-        (StaysBehind input (kept_in session.old) v (store_in session.old) start now)
-        → EndsSeen (seen_of v image) result input output (K.stands sink.old) (K.stands sink.new) }
+    ensures over { EndsInput K.Sink session.old result sink.old sink.new }
+    ensures ends { SeesEndOfInput K.Sink session.old result sink.old sink.new }
     ensures end { IsEnd result }
     ensures sink { GivesTo K.Sink (result ≡ Served.Sink) sink.old sink.new }
 {
@@ -168,17 +161,12 @@ fn serve_open<S: Source, K: Sink, D: Device>(
     ensures over { (before : State) → IsOpen (store_in session.old) before (D.state device.old)
         → ServesFrom S.Source K.Sink D.Device (extents_of (store_in session.old)) before result
         source.old source.new sink.old sink.new device.old device.new }
-    ensures seen { (image : Image) → (D.state device.old).shown ≡ Some image
-        → ServesSeen (seen_of (store_in session.old) image) result (S.left source.old) (S.left source.new)
-        (K.stands sink.old) (K.stands sink.new) }
+    ensures seen { ServesAsSeen S.Source K.Sink D.Device (seen_of (store_in session.old)) result
+        source.old source.new sink.old sink.new device.old }
     ensures damaged { (b : ℕ) → result ≡ Served.Damaged b
         → StopsGetOf (store_in session.old) b (D.state device.new) }
-    ensures turns { result ≡ Served.Turns
-        → RoseBy (2 ^ 48) (S.pieces source.old) (S.pieces source.new) }
-    ensures pieces { S.pieces source.new ≤ S.pieces source.old + 2 ^ 48 }
-    ensures source { TakesFrom S.Source (result ≡ Served.Source) source.old source.new }
-    ensures sink { GivesTo K.Sink (result ≡ Served.Sink) sink.old sink.new }
-    ensures device { FailsOn D.Device (result ≡ Served.Device) device.old device.new }
+    ensures causes { IsCaused S.Source K.Sink D.Device result source.old source.new sink.old sink.new
+        device.old device.new }
 {
     let Ok(mut page) = Page::new(alloc) else {
         return Served::NoMemory;
@@ -235,12 +223,8 @@ pub fn serve<S: Source, K: Sink, D: Device>(
         → open_image image ≡ Ok opened
         → ServesSeen (seen_on opened image) result (S.left source.old) (S.left source.new)
         (K.stands sink.old) (K.stands sink.new) }
-    ensures turns { result ≡ Served.Turns
-        → RoseBy (2 ^ 48) (S.pieces source.old) (S.pieces source.new) }
-    ensures pieces { S.pieces source.new ≤ S.pieces source.old + 2 ^ 48 }
-    ensures source { TakesFrom S.Source (result ≡ Served.Source) source.old source.new }
-    ensures sink { GivesTo K.Sink (result ≡ Served.Sink) sink.old sink.new }
-    ensures device { FailsOn D.Device (result ≡ Served.Device) device.old device.new }
+    ensures causes { IsCaused S.Source K.Sink D.Device result source.old source.new sink.old sink.new
+        device.old device.new }
 {
     match Session::open(alloc, device) {
         Ok(mut session) => serve_open(alloc, &mut session, source, sink, device),

@@ -8,7 +8,7 @@ returns-in-Damaged-clause-over g c = λ before r. absurd (c.in-Damaged.ensures.o
 
 pub returns-in-Damaged-clause-damaged : goal.returns-in-Damaged-clause-damaged
 returns-in-Damaged-clause-damaged g c = λ _.
-    found-damage _ _ _ _ _ _ _ _ _ _ c.in-Damaged.block c.tell_damage.result c.in-Damaged.ensures.sink.gains c.in-Damaged.ensures.sink.later c.tell_damage.ensures.all c.tell_damage.ensures.front c.tell_damage.ensures.cause
+    found-damage _ _ _ _ _ _ _ _ _ _ c.in-Damaged.block c.tell_damage.result c.in-Damaged.ensures.causes.sink.gains c.in-Damaged.ensures.causes.sink.later c.tell_damage.ensures.all c.tell_damage.ensures.front c.tell_damage.ensures.cause
     (⊎_elim (λ opening. inl (opening.0, opening.1, ap (g.S.Source.left) opening.2, ap (g.K.Sink.stands) opening.3)) (λ get. inr get) (c.in-Damaged.ensures.damaged c.in-Damaged.block refl))
 
 pub returns-in-Damaged-clause-unopened : goal.returns-in-Damaged-clause-unopened
@@ -16,7 +16,7 @@ returns-in-Damaged-clause-unopened g c = λ b fails.
     let none = c.in-Damaged.ensures.unopened b fails in (
       record {
         is = tt;
-        told = λ _. tells-damage _ _ _ _ _ _ c.in-Damaged.block b c.tell_damage.result none.0 (ap (g.K.Sink.stands) none.3) c.in-Damaged.ensures.sink.later c.tell_damage.ensures.all c.tell_damage.ensures.front c.tell_damage.ensures.cause;
+        told = λ _. tells-damage _ _ _ _ _ _ c.in-Damaged.block b c.tell_damage.result none.0 (ap (g.K.Sink.stands) none.3) c.in-Damaged.ensures.causes.sink.later c.tell_damage.ensures.all c.tell_damage.ensures.front c.tell_damage.ensures.cause;
       },
       none.1,
       none.2,
@@ -65,4 +65,4 @@ returns-in-Turns-clause-seen g c = λ image opened shown opens. run-seen _ serve
 
 pub returns-in-Damaged-clause-seen : goal.returns-in-Damaged-clause-seen
 returns-in-Damaged-clause-seen g c = λ image opened shown opens.
-    damage-seen _ c.in-Damaged.block _ _ _ _ _ _ _ c.tell_damage.result (c.in-Damaged.ensures.seen image opened shown opens) c.in-Damaged.ensures.sink.later c.tell_damage.ensures.all c.tell_damage.ensures.front
+    damage-seen _ c.in-Damaged.block _ _ _ _ _ _ _ c.tell_damage.result (c.in-Damaged.ensures.seen image opened shown opens) c.in-Damaged.ensures.causes.sink.later c.tell_damage.ensures.all c.tell_damage.ensures.front

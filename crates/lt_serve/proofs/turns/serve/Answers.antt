@@ -44,26 +44,6 @@ returns-in-Err-clause-unopened g c = λ b fails. (
 pub returns-in-Ok-clause-damaged : goal.returns-in-Ok-clause-damaged
 returns-in-Ok-clause-damaged g c = λ b is. inr (found-by-get _ _ b _ c.in-Ok.ensures.reads (c.serve_open.ensures.damaged b is))
 
-pub returns-in-Err-clause-source : goal.returns-in-Err-clause-source
-returns-in-Err-clause-source g c = takes-still _ _ (omega arith) (not-unopened c.in-Err.fault c.unopened_of.result c.unopened_of.ensures).0
-
-pub returns-in-Err-clause-sink : goal.returns-in-Err-clause-sink
-returns-in-Err-clause-sink g c = gives-none _ (not-unopened c.in-Err.fault c.unopened_of.result c.unopened_of.ensures).1
-
-pub returns-in-Err-clause-device : goal.returns-in-Err-clause-device
-returns-in-Err-clause-device g c =
-    let calls = c.in-Err.ensures.calls in
-    record { later = calls.later; cause = λ is. calls.cause (ap Err (unopened-device c.in-Err.fault (sym c.unopened_of.ensures ∙ is))) }
-
-pub returns-in-Ok-clause-source : goal.returns-in-Ok-clause-source
-returns-in-Ok-clause-source g c = c.serve_open.ensures.source
-
-pub returns-in-Ok-clause-sink : goal.returns-in-Ok-clause-sink
-returns-in-Ok-clause-sink g c = c.serve_open.ensures.sink
-
-pub returns-in-Ok-clause-device : goal.returns-in-Ok-clause-device
-returns-in-Ok-clause-device g c = fails-behind _ _ _ c.in-Ok.ensures.calls.later c.serve_open.ensures.device.later c.serve_open.ensures.device.cause
-
 pub returns-in-Ok-clause-seen : goal.returns-in-Ok-clause-seen
 returns-in-Ok-clause-seen g c = λ image opened shown opens.
     let r = c.in-Ok.ensures.reads image shown in
@@ -75,3 +55,26 @@ returns-in-Ok-clause-seen g c = λ image opened shown opens.
 pub returns-in-Err-clause-seen : goal.returns-in-Err-clause-seen
 returns-in-Err-clause-seen g c = λ image opened shown opens.
     unopened-sees c.in-Err.fault c.unopened_of.result image opened _ _ c.unopened_of.ensures opens (λ b is. c.in-Err.ensures.damaged b (ap Err is) image shown)
+
+pub returns-in-Ok-clause-causes : goal.returns-in-Ok-clause-causes
+returns-in-Ok-clause-causes g c =
+    let causes = c.serve_open.ensures.causes in
+    record {
+      turns = causes.turns;
+      pieces = causes.pieces;
+      source = causes.source;
+      sink = causes.sink;
+      device = fails-behind _ _ _ c.in-Ok.ensures.calls.later causes.device.later causes.device.cause;
+    }
+
+pub returns-in-Err-clause-causes : goal.returns-in-Err-clause-causes
+returns-in-Err-clause-causes g c =
+    let calls = c.in-Err.ensures.calls in
+    let other = not-unopened c.in-Err.fault c.unopened_of.result c.unopened_of.ensures in
+    record {
+      turns = λ is. absurd (other.2 is);
+      pieces = omega arith;
+      source = takes-still _ _ (omega arith) other.0;
+      sink = gives-none _ other.1;
+      device = record { later = calls.later; cause = λ is. calls.cause (ap Err (unopened-device c.in-Err.fault (sym c.unopened_of.ensures ∙ is))) };
+    }

@@ -1,4 +1,5 @@
-use Rattle.std.proofs.Common.{ap, refl, ◌∙◌, Err, arith}
+use Rattle.std.proofs.Common.{ap, refl, rules, subst, ◌∙◌, Err, arith}
+use Rattle.lt_serve.specs.Faults.{IsTurnEnd}
 use Rattle.lt_serve.proofs.TurnLaws.{turned-none, turned-pause, turned-more, turned-last, rose-more}
 use Rattle.lt_serve.proofs.CallLaws.{fails-behind, fails-still, gives-behind, gives-none, gives-still, takes-behind, takes-still}
 use Rattle.lt_serve.proofs.SendLaws.{gains_some-none, gains_some-more}
@@ -63,48 +64,6 @@ returns-clause-over g c = λ before opened. (tt, turned-pause _ before _ _ _ _ _
 pub returns-in-Err-clause-damaged : goal.returns-in-Err-clause-damaged
 returns-in-Err-clause-damaged g c = λ b is. stops-same _ _ b _ c.loop-number.invariant.sizes (c.in-Err.ensures.device.damaged b (ap Err is))
 
-pub returns-in_default-clause-source : goal.returns-in_default-clause-source
-returns-in_default-clause-source g c = takes-still _ _ (omega arith) (λ is. absurd (cc (is)))
-
-pub returns-in_default-clause-sink : goal.returns-in_default-clause-sink
-returns-in_default-clause-sink g c = gives-none _ (λ is. absurd (cc (is)))
-
-pub returns-in_default-clause-device : goal.returns-in_default-clause-device
-returns-in_default-clause-device g c = fails-still _ _ (omega arith) (λ is. absurd (cc (is)))
-
-pub returns-in_default-new-clause-source : goal.returns-in_default-new-clause-source
-returns-in_default-new-clause-source g c = takes-still _ _ (omega arith) (λ is. absurd (cc (is)))
-
-pub returns-in_default-new-clause-sink : goal.returns-in_default-new-clause-sink
-returns-in_default-new-clause-sink g c = gives-none _ (λ is. absurd (cc (is)))
-
-pub returns-in_default-new-clause-device : goal.returns-in_default-new-clause-device
-returns-in_default-new-clause-device g c = fails-still _ _ (omega arith) (λ is. absurd (cc (is)))
-
-pub returns-in-Err-clause-source : goal.returns-in-Err-clause-source
-returns-in-Err-clause-source g c = takes-behind _ _ _ c.loop-number.invariant.source_later (λ is. ap Err is) c.in-Err.ensures.source
-
-pub returns-in-Err-clause-sink : goal.returns-in-Err-clause-sink
-returns-in-Err-clause-sink g c =
-    let so_far = c.loop-number.invariant in
-    gives-behind _ _ _ so_far.sink_gains so_far.sink_later (λ is. ap Err is) c.in-Err.ensures.sink
-
-pub returns-in-Err-clause-device : goal.returns-in-Err-clause-device
-returns-in-Err-clause-device g c =
-    let device = c.in-Err.ensures.device in
-    fails-behind _ _ _ c.loop-number.invariant.device_later device.later (λ is. device.cause (ap Err is))
-
-pub returns-clause-source : goal.returns-clause-source
-returns-clause-source g c = takes-still _ _ c.loop-number.invariant.source_later (λ is. absurd (cc (is)))
-
-pub returns-clause-sink : goal.returns-clause-sink
-returns-clause-sink g c =
-    let so_far = c.loop-number.invariant in
-    gives-still _ _ so_far.sink_gains so_far.sink_later (λ is. absurd (cc (is)))
-
-pub returns-clause-device : goal.returns-clause-device
-returns-clause-device g c = fails-still _ _ c.loop-number.invariant.device_later (λ is. absurd (cc (is)))
-
 pub returns-in_default-clause-seen : goal.returns-in_default-clause-seen
 returns-in_default-clause-seen g c = λ image shown.
     serves-still _ _ _ _ _ _ _ _ _ _ (served-none (store_in c.args.session.now) image (kept_in c.args.session.now) (g.D.Device.state c.args.device.now) _ _ c.requires.none (c.args.session.now.idle c.requires.up).durable) _ (λ is. absurd (cc (is))) (λ b is. absurd (cc (is)))
@@ -121,3 +80,44 @@ returns-in-Err-clause-seen g c = λ image shown.
 
 pub returns-clause-seen : goal.returns-clause-seen
 returns-clause-seen g c = λ image shown. serves-still (store_in c.args.session.now) image _ _ _ _ _ _ _ _ (c.loop-number.invariant.sees image shown) _ (λ is. absurd (cc (is))) (λ b is. absurd (cc (is)))
+
+pub returns-in_default-clause-causes : goal.returns-in_default-clause-causes
+returns-in_default-clause-causes g c = record {
+  turns = λ is. absurd (cc (is));
+  pieces = omega arith;
+  source = takes-still _ _ (omega arith) (λ is. absurd (cc (is)));
+  sink = gives-none _ (λ is. absurd (cc (is)));
+  device = fails-still _ _ (omega arith) (λ is. absurd (cc (is)));
+}
+
+pub returns-in_default-new-clause-causes : goal.returns-in_default-new-clause-causes
+returns-in_default-new-clause-causes g c = record {
+  turns = λ is. absurd (cc (is));
+  pieces = omega arith;
+  source = takes-still _ _ (omega arith) (λ is. absurd (cc (is)));
+  sink = gives-none _ (λ is. absurd (cc (is)));
+  device = fails-still _ _ (omega arith) (λ is. absurd (cc (is)));
+}
+
+pub returns-in-Err-clause-causes : goal.returns-in-Err-clause-causes
+returns-in-Err-clause-causes g c =
+    let so_far = c.loop-number.invariant in
+    let last = c.in-Err.ensures in
+    record {
+      turns = λ is. absurd (subst IsTurnEnd is last.end);
+      pieces = omega (arith, so_far.most, last.one_piece);
+      source = takes-behind _ _ _ so_far.source_later (λ is. ap Err is) last.source;
+      sink = gives-behind _ _ _ so_far.sink_gains so_far.sink_later (λ is. ap Err is) last.sink;
+      device = fails-behind _ _ _ so_far.device_later last.device.later (λ is. last.device.cause (ap Err is));
+    }
+
+pub returns-clause-causes : goal.returns-clause-causes
+returns-clause-causes g c =
+    let so_far = c.loop-number.invariant in
+    record {
+      turns = λ is. search rules;
+      pieces = search rules;
+      source = takes-still _ _ so_far.source_later (λ is. absurd (cc (is)));
+      sink = gives-still _ _ so_far.sink_gains so_far.sink_later (λ is. absurd (cc (is)));
+      device = fails-still _ _ so_far.device_later (λ is. absurd (cc (is)));
+    }

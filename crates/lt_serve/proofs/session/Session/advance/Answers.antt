@@ -47,7 +47,7 @@ returns-in_err-answer-clause-err g c =
           let held = sees-kept v image before ends.chunk (kept_in self) c.feed-taken.new.self.kept self.wrote waiting0 c.args.out.now (store_in self) start device s ends.kept_is in
           subst (λ (more : List ℕ). FailsSeen (seen_of v image) (before ++ more) c.in_err-answer.field-0.0 waiting0.settled_text c.answer.new.out.settled_text) whole
           (fails-line v image before ends.chunk (drop n piece) (kept_in self) self.wrote waiting0 c.args.out.now (store_in self) start device s shown c.in_err-answer.field-0.0 c.answer.new.out.settled_text ends.unbroken
-          (λ b is. c.answer.ensures.stops b (rest_of before ++ ends.chunk) (c.in_err-answer.was ∙ ap Err is) held) (ap (λ (w : Waiting). w.settled_text) c.in_err-answer.ensures.untold.0))),
+          (λ b is. c.answer.ensures.stops b (c.in_err-answer.was ∙ ap Err is) (rest_of before ++ ends.chunk) held) (ap (λ (w : Waiting). w.settled_text) c.in_err-answer.ensures.untold.0))),
     )
 
 pub returns-in_ok-answer-clause-ok : goal.returns-in_ok-answer-clause-ok

@@ -96,7 +96,7 @@ returns-else-not-self-clause-tells g c = λ line held.
     }
 
 pub returns-in_err-taken-clause-stops : goal.returns-in_err-taken-clause-stops
-returns-in_err-taken-clause-stops g c = λ b line is held.
+returns-in_err-taken-clause-stops g c = λ b is line held.
     let command = of_line (command_in c.command-command.result) c.args.self.now.lines.kept line c.command-command.ensures held in
     let was = was-damaged c.act_command.result c.from_residual.result c.in_err-taken.field-0.0 b c.in_err-taken.was c.from_residual.ensures.1 is in
     subst (λ (x : Command). StopsAt (store_in c.args.self.now) x (g.D.Device.state c.args.device.now) b) command (c.act_command.ensures.stops b was)
