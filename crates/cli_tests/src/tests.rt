@@ -256,7 +256,10 @@ fn a_get_between_two_stats_is_counted(rt: HostRuntime) -> Result<(), NoMemory> {
     let (shown, status) = run(alloc, &mut device, &pieces)?;
     let reads = device.reads();
     let mut want = b"OK\nOK\n".to_vec(alloc)?;
-    for (reply, count) in [("STAT 2 ", reads.saturating_sub(1)), ("VALUE 1\nSTAT 2 ", reads)] {
+    for (reply, count) in [
+        ("STAT 2 ", reads.saturating_sub(1)),
+        ("VALUE 1\nSTAT 2 ", reads),
+    ] {
         want.extend_from_slice(reply.as_bytes())?;
         want.extend_from_slice(count.to_string(alloc)?.as_bytes())?;
         want.extend_from_slice(b" 1 0\n")?;

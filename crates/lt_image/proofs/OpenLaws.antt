@@ -107,7 +107,6 @@ root-bare levels extents trie deep t =
     let inner : is_last_level levels root ≡ false = ne_eqb (0 + 1) levels (λ e. absurd (omega arith)) in
     nil_from_length (node_at trie root).groups (shaped-inner levels extents root (node_at trie root) inner (node_at-shaped levels extents trie root t.nodes)).1
 
-
 pub opens-well : (image : Image) (o : Opened) → open_image image ≡ Ok o → IsWell o
 opens-well image o h =
     let n = manifest_of-named image o.named (opens-is image o h).named in

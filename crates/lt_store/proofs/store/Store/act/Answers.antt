@@ -37,7 +37,7 @@ returns-in_ok-put-in-Put-clause-step g c = λ durable opened.
     let number = all-writes (view_of s) durable (g.D.Device.state c.args.device.now) opened (length s.filters) (s.kept c.requires.up) c.in-Put.key.now in
     rw c.in-Put.is
     (put-step s.manifest.manifest.header.extents s.writes (state_of (view_of s) durable) answer.field-0 number (limits answer.field-0 _ answer.ensures.limit)
-    (λ needed free is. ((answer.ensures.full needed free (ap Ok is)).short, (answer.ensures.writes.full_images needed free (ap Ok is) durable opened).1)) c.in-Put.key.now c.in-Put.value.now c.args.out.now)
+    (λ needed free is. ((answer.ensures.full needed free (ap Ok is)).short, (answer.ensures.all.writes.full_images needed free (ap Ok is) durable opened).1)) c.in-Put.key.now c.in-Put.value.now c.args.out.now)
 
 pub returns-in_ok-put-in-Put-clause-kind : goal.returns-in_ok-put-in-Put-clause-kind
 returns-in_ok-put-in-Put-clause-kind g c = rw c.in-Put.is (write-kind (commands.put c.in-Put.key.now c.in-Put.value.now) c.in_ok-put-in-Put.field-0 c.args.out.now (λ reply is. is))
@@ -59,7 +59,7 @@ returns-in_ok-delete-in-Delete-clause-step g c = λ durable opened.
     let number = all-writes (view_of s) durable (g.D.Device.state c.args.device.now) opened (length s.filters) (s.kept c.requires.up) c.in-Delete.key.now in
     rw c.in-Delete.is
     (delete-step s.manifest.manifest.header.extents s.writes (state_of (view_of s) durable) answer.field-0 number (limits answer.field-0 _ answer.ensures.limit)
-    (λ needed free is. ((answer.ensures.full needed free (ap Ok is)).short, (answer.ensures.writes.full_images needed free (ap Ok is) durable opened).1)) c.in-Delete.key.now c.args.out.now)
+    (λ needed free is. ((answer.ensures.full needed free (ap Ok is)).short, (answer.ensures.all.writes.full_images needed free (ap Ok is) durable opened).1)) c.in-Delete.key.now c.args.out.now)
 
 pub returns-in_ok-delete-in-Delete-clause-kind : goal.returns-in_ok-delete-in-Delete-clause-kind
 returns-in_ok-delete-in-Delete-clause-kind g c = rw c.in-Delete.is (write-kind (commands.delete c.in-Delete.key.now) c.in_ok-delete-in-Delete.field-0 c.args.out.now (λ reply is. is))
