@@ -23,7 +23,7 @@ pub record IsSpot (levels : ℕ) (shares : List Share) (filled share first place
   pub below : place < share_extents levels here
 
 -- between these moments no other blocks were written, and nothing was synced
-pub record TouchesOnly (inside : ℕ → Type 0) (old new : State) : Type 0 where
+pub record FillsWithin (inside : ℕ → Type 0) (old new : State) : Type 0 where
   pub confined : ConfinedTo inside old new
   pub others : ShowsSameOutside inside old.shown new.shown
   pub no_sync : new.past ≡ old.past

@@ -10,7 +10,7 @@ ghost use Rattle.lt_image.specs.Standing.{filter_blocks};
 ghost use Rattle.lt_tables.specs.Filter.{IsGroup};
 ghost use Rattle.lt_tables.specs.Table.{blocks_from};
 ghost use Rattle.lt_compact.specs.Plans.{Content, Holds, MayFill, all_contents, extents_for, filters_of};
-ghost use Rattle.lt_compact.specs.Filling.{AreWithin, IsSpot, TouchesOnly};
+ghost use Rattle.lt_compact.specs.Filling.{AreWithin, FillsWithin, IsSpot};
 
 use crate::share::Share;
 use lt_bloom::FilterPage;
@@ -43,7 +43,7 @@ pub(super) fn fill<D: Device>(
         (slice_index_or (all_contents geometry.now.levels shares.now numbers.now) filled c)) }
 
     // Whatever it answers, it touches no other block.
-    ensures touches { TouchesOnly (InExtent (extent_block geometry.now (slice_index numbers.now filled)))
+    ensures touches { FillsWithin (InExtent (extent_block geometry.now (slice_index numbers.now filled)))
         (D.state device.old) (D.state device.new) }
     ensures calls { ReadsAndWrites D.Device 64 (IsErrOf result BuildFault.Device) device.old device.new }
 {
@@ -139,7 +139,7 @@ fn fill_group<D: Device>(
     ensures grouped { OnOk result ((before image : Image) → (D.state device.old).shown ≡ Some before
         → (D.state device.new).shown ≡ Some image
         → IsGroup (filter_blocks geometry.now image tables.now) (blocks_from image first)) }
-    ensures touches { TouchesOnly (InExtent first) (D.state device.old) (D.state device.new) }
+    ensures touches { FillsWithin (InExtent first) (D.state device.old) (D.state device.new) }
     ensures calls { ReadsAndWrites D.Device 64 (IsErrOf result BuildFault.Device) device.old device.new }
 {
     let pages = filters_of(alloc, device, geometry, tables)?;

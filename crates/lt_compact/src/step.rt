@@ -8,7 +8,7 @@ ghost use Rattle.lt_format.specs.Layout.{blocks_needed, extent_block};
 ghost use Rattle.lt_format.specs.Snapshot.{Named};
 ghost use Rattle.lt_format.specs.Trie as format;
 ghost use Rattle.lt_compact.specs.Extents.{GoesWith};
-ghost use Rattle.lt_compact.specs.Filling.{MayFillNext, TouchesOnly};
+ghost use Rattle.lt_compact.specs.Filling.{FillsWithin, MayFillNext};
 ghost use Rattle.lt_compact.specs.Inside.{kept_of};
 ghost use Rattle.lt_compact.specs.Jobs.{IsShaped, KeepsJob, is_filled};
 ghost use Rattle.lt_compact.specs.Steps.{Advances, InExtents, IsDamaged, is_ready, made_by, next_extents};
@@ -86,7 +86,7 @@ impl Job {
         ensures count { length extents.new ≡ length extents.old }
 
         // It touches no block but of the extent that it fills, and syncs nothing.
-        ensures touches { TouchesOnly (InExtents geometry.now (next_extents self.old.stage))
+        ensures touches { FillsWithin (InExtents geometry.now (next_extents self.old.stage))
             (D.state device.old) (D.state device.new) }
         ensures damaged { (b : ℕ) → IsErrOf result (JobFault.Damaged b)
             → IsDamaged geometry.now (D.state device.old).shown self.old.sources b }
@@ -224,7 +224,7 @@ impl Job {
             → Advances geometry.now (D.state device.old).shown (D.state device.new).shown nodes
             taken taken self.old self.new stepped) }
         ensures unchanged { OnErr result (self.new ≡ self.old) }
-        ensures touches { TouchesOnly (InExtents geometry.now (next_extents self.old.stage))
+        ensures touches { FillsWithin (InExtents geometry.now (next_extents self.old.stage))
             (D.state device.old) (D.state device.new) }
         ensures only { (b : ℕ) → IsErrOf result (JobFault.Damaged b) → ⊥ }
         ensures calls { ReadsAndWrites D.Device 64 (IsErrOf result JobFault.Device)

@@ -170,4 +170,5 @@ StopsFurther d s t bytes fault now waiting old new = (v : StoreView) (durable : 
     (waiting0 : Waiting) (start : Moment) → IsOpen v durable start.state → extents_of (store_in s) ≡ extents_of v
     → v.log.pending ≡ []
     → Went v durable before (kept_in s) s.wrote waiting0 now (store_in s) start (moment_of d old)
-    → Stopped (extents_of v) durable (before ++ bytes) t.lines fault waiting0 waiting.settled_text start (moment_of d new)
+    → Stopped (extents_of v) durable (before ++ bytes) t.lines fault waiting0 waiting.settled_text start
+    (moment_of d new)

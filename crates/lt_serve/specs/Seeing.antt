@@ -18,7 +18,8 @@ use Rattle.lt_serve.specs.declared.faults.RoundFault.TheVariants as faults
 use Rattle.lt_serve.specs.declared.served.Served.{Served}
 use Rattle.lt_serve.specs.declared.session.Session.{Session}
 use Rattle.lt_serve.specs.Acting.{settled_unless}
-use Rattle.lt_serve.specs.Promise.{AnswersSeen, AreSeen, BeginsWithOk, IsSeenReply, ServesSeen, Sight, StopsNext, WritesNext, is_ok}
+use Rattle.lt_serve.specs.Promise.{AnswersSeen, AreSeen, BeginsWithOk, IsSeenReply, ServesSeen, Sight, StopsNext}
+use Rattle.lt_serve.specs.Promise.{WritesNext, is_ok}
 use Rattle.lt_serve.specs.Rounds.{ActsFurther, ActsLines, StopsFurther, StopsInLines, all_text}
 use Rattle.lt_serve.specs.Serving.{EndsIn, GoesOnBy, TurnsOn, TurnsOver}
 use Rattle.lt_serve.specs.View.{kept_in, store_in}

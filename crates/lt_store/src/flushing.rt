@@ -12,7 +12,8 @@ ghost use Rattle.lt_store.specs.Flushing.{HasTables, IsShort, Stays, flushed, Is
 ghost use Rattle.lt_alloc.specs.declared.extents.Short.{Short};
 ghost use Rattle.lt_store.specs.Open.{IsOpen, blocks_of};
 ghost use Rattle.lt_store.specs.View.{view_of};
-ghost use Rattle.lt_store.specs.Calls.{Flushes, Installs, KeepsDurable, LivesOn, StaysOpen, Unchanged, WhereOpen, WherePrepared};
+ghost use Rattle.lt_store.specs.Calls.{Flushes, Installs, KeepsDurable, LivesOn, StaysOpen, Unchanged, WhereOpen};
+ghost use Rattle.lt_store.specs.Calls.{WherePrepared};
 
 use crate::building::build_tables;
 use crate::faults::FlushFault;
