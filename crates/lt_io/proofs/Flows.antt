@@ -57,12 +57,14 @@ Gains-written old between new bytes written n first then =
 pub GainsPart-stopped : (old between new : List ℕ → Type 0) (bytes : List ℕ) (written : ℕ) → written < length bytes → Gains old between (take written bytes) → Gains between new [] → GainsPart old new bytes
 GainsPart-stopped old between new bytes written within first then =
     record {
-      shown = take written bytes;
-      hidden = drop written bytes;
-      whole = sym (take-append-drop written bytes);
+      front = record {
+        shown = take written bytes;
+        hidden = drop written bytes;
+        whole = sym (take-append-drop written bytes);
+        gained = rw append-nil at (Gains-more old between new (take written bytes) [] first then);
+      };
       some = let rest : length (drop written bytes) ≡ length bytes - written = length-drop written bytes in omega arith;
-      gained = rw append-nil at (Gains-more old between new (take written bytes) [] first then);
     }
 
 pub GainsPart-front : (old new : List ℕ → Type 0) (bytes : List ℕ) → GainsPart old new bytes → GainsFront old new bytes
-GainsPart-front old new bytes part = record { shown = part.shown; hidden = part.hidden; whole = part.whole; gained = part.gained }
+GainsPart-front old new bytes part = part.front

@@ -1,9 +1,8 @@
--- What a read of a source and a write to a sink leave, as each source and each sink promises it.
-use Rattle.std.specs.Prelude.{◌≡◌, ℕ, ◌<◌, ◌≤◌, List, [], Some, Result, IfOk, OnErr, take, length}
+-- What a read of a source leaves, as each source promises it.
+use Rattle.std.specs.Prelude.{◌≡◌, ℕ, ◌≤◌, List, [], Some, Result, IfOk, OnErr, take}
 use Rattle.lt_terms.specs.Causes.{HasCause}
-use Rattle.lt_io.specs.Streams.{Gains, IsAtEnd, Takes, pieces_after}
+use Rattle.lt_io.specs.Streams.{IsAtEnd, Takes, pieces_after}
 use Rattle.lt_io.specs.declared.source.Source.{Ghosts as SourceGhosts}
-use Rattle.lt_io.specs.declared.sink.Sink.{Ghosts as SinkGhosts}
 
 -- one read: the bytes that stand at the front of the page, and what the source has left
 pub record ReadsPiece {S E : Type 0} (g : SourceGhosts S) (old new : S) (page : List ℕ) (result : Result ℕ E)
@@ -16,12 +15,3 @@ pub record ReadsPiece {S E : Type 0} (g : SourceGhosts S) (old new : S) (page : 
   pub cause : HasCause (g.faults old) (g.faults new) result
   pub err : OnErr result (g.left new ≡ g.left old)
   pub err_pieces : OnErr result (g.pieces new ≡ g.pieces old)
-
--- one write: how many of the bytes were taken, and what the sink gained
-pub record WritesPart {K E : Type 0} (g : SinkGhosts K) (bytes : List ℕ) (old new : K) (result : Result ℕ E)
-    : Type 0 where
-  pub fits : IfOk result (λ n. n ≤ length bytes)
-  pub progress : IfOk result (λ n. 0 < length bytes → 0 < n)
-  pub taken : IfOk result (λ n. Gains (g.stands old) (g.stands new) (take n bytes))
-  pub cause : HasCause (g.faults old) (g.faults new) result
-  pub err : OnErr result (Gains (g.stands old) (g.stands new) [])

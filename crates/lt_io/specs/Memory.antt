@@ -6,7 +6,6 @@ use Rattle.lt_terms.specs.Bytes.{is_in}
 use Rattle.lt_terms.specs.Causes.{next_count}
 use Rattle.lt_io.specs.Streams.{pieces_after}
 use Rattle.lt_io.specs.declared.source.Source.{Ghosts as SourceGhosts}
-use Rattle.lt_io.specs.declared.sink.Sink.{Ghosts as SinkGhosts}
 
 -- the pieces that have bytes
 abbrev pub nonempty : List (List ℕ) → List (List ℕ)
@@ -30,7 +29,7 @@ pub record MemoryInput : Type 0 where
   pub taken_pieces : ℕ
   pub fault_count : ℕ
 
--- what it says of itself
+-- what a source in memory says of itself
 abbrev pub memory_source : SourceGhosts MemoryInput
 memory_source = record {
   left = λ s. Some (bytes_of s.left_pieces);
@@ -65,7 +64,7 @@ pub record SteadyInput : Type 0 where
   pub left_pieces : List (List ℕ)
   pub taken_pieces : ℕ
 
--- what it says of itself
+-- what a source in memory that never fails says of itself
 abbrev pub steady_source : SourceGhosts SteadyInput
 steady_source = record {
   left = λ s. Some (bytes_of s.left_pieces);
@@ -86,10 +85,6 @@ pub record MemoryOutput : Type 0 where
   pub failing_calls : List ℕ
   pub next_call : ℕ
   pub fault_count : ℕ
-
--- what it says of itself
-abbrev pub memory_sink : SinkGhosts MemoryOutput
-memory_sink = record { stands = λ sink bytes. bytes ≡ sink.taken_bytes; faults = λ sink. sink.fault_count }
 
 -- a sink with this room that takes so many bytes in one write, whose writes with these numbers fail
 abbrev pub fresh_sink : ℕ → ℕ → List ℕ → MemoryOutput
@@ -116,6 +111,6 @@ after_failed_write sink =
 abbrev pub refuses : MemoryOutput → Bool
 refuses sink = is_in sink.next_call sink.failing_calls || nat_le sink.room_limit (length sink.taken_bytes)
 
--- how many of so many bytes it takes
+-- how many of so many bytes the next write to a sink takes
 abbrev pub taken_of : MemoryOutput → ℕ → ℕ
 taken_of sink n = min n (min sink.step_limit (sink.room_limit - length sink.taken_bytes))

@@ -14,7 +14,7 @@ output_of sink = record {
   fault_count = sink.faults;
 }
 
--- it takes at least one byte a write, and has room for all that it may take
+-- a sink takes at least one byte a write, and has room for all that it may take
 pub record HasRoom (sink : Inside) : Type 0 where
   pub step : 1 ≤ sink.step
   pub within : vec_len sink.taken ≤ sink.room

@@ -1,7 +1,7 @@
-ghost use Rattle.std.specs.Prelude.{◌≡◌, ℕ, ◌≤◌, List, IfOk, OnErr, IsErr, IsTrue, ◌↔◌, take, length};
-ghost use Rattle.lt_terms.specs.Causes.{next_count};
-ghost use Rattle.lt_io.specs.Calls.{WritesPart};
-ghost use Rattle.lt_io.specs.Memory.{after_failed_write, after_write, fresh_sink, memory_sink, refuses, taken_of};
+ghost use Rattle.std.specs.Prelude.{◌≡◌, ℕ, ◌<◌, ◌≤◌, List, [], IfOk, OnErr, IsErr, IsTrue, ◌↔◌, take, length};
+ghost use Rattle.lt_terms.specs.Causes.{HasCause, next_count};
+ghost use Rattle.lt_io.specs.Streams.{Gains};
+ghost use Rattle.lt_io.specs.Memory.{after_failed_write, after_write, fresh_sink, refuses, taken_of};
 
 use super::counts::{is_listed, risen};
 use super::sink::Sink;
@@ -78,7 +78,13 @@ impl Sink for MemSink {
     ghost faults = { λ sink. sink.fault_count };
 
     fn write(&mut self, bytes: &[u8]) -> Result<usize, Failed>
-        ensures writes { WritesPart memory_sink bytes.now self.old self.new result }
+        ensures fits { IfOk result (λ n. n ≤ length bytes.now) }
+        ensures progress { IfOk result (λ n. 0 < length bytes.now → 0 < n) }
+        ensures taken { IfOk result (λ n. Gains (λ b. b ≡ self.old.taken_bytes) (λ b. b ≡ self.new.taken_bytes)
+            (take n bytes.now)) }
+
+        ensures cause { HasCause self.old.fault_count self.new.fault_count result }
+        ensures err { OnErr result (Gains (λ b. b ≡ self.old.taken_bytes) (λ b. b ≡ self.new.taken_bytes) []) }
 
         // It fails where it is told to, and takes as much as it is told to.
         ensures fails { IsErr result ↔ IsTrue (refuses self.old) }
