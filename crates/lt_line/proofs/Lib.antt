@@ -1,3 +1,5 @@
 pub mod FeedLaws
+pub mod GeneratorLaws
 pub mod HeldLaws
 pub mod ReplyLaws
+pub mod TallyLaws
