@@ -140,6 +140,42 @@ has_shares g trie m image j shares numbers geometry trie_is shaped stage keeps =
     let long : length (all_contents g.levels shares numbers) ≡ extents_for g.levels shares = length-all_contents g.levels shares numbers in
     record { fit = b.0; count = count; are = are; held = take_all (Holds g image) numbers (all_contents g.levels shares numbers) (length numbers) (omega arith) held (omega arith) }
 
+-- ---- what the change of a ready job is
+
+-- the change of a last-level node's ready job: its node got its share, in the extents that are as before
+pub record RewritesNode (g : Geometry) (old new : Image) (id : NodeId) (pile : List ℕ) (change : Change) : Type 0 where
+  pub tables : List ℕ
+  pub groups : List ℕ
+  pub is : change ≡ rewrite id tables groups
+  pub gets : Gets g new (record { node = id; tables = tables; kept_groups = 0; groups = groups }) (rewrite_share id (pile_items g old pile))
+
+pub ready-rewrites : (m : Named) (old new : Image) (j : JobView) (change : Change) → change_of j ≡ Some change → is_last_level m.geometry.levels j.node ≡ true
+    → SameExtents m.geometry old new (taken_in j.stage) → IsShaped m.geometry.levels m.manifest.trie j → KeepsJob m old j → RewritesNode m.geometry old new j.node (node_at m.manifest.trie j.node).tables change
+ready-rewrites m old new j change change_is last filled shaped keeps =
+    let levels : ℕ = m.geometry.levels in
+    let trie : Trie = m.manifest.trie in
+    let ready : IsReady j.levels j.node j.sources j.stage change = job-ready j change change_is in
+    let numbers : List ℕ = ready.numbers in
+    let has : HasShares m.geometry trie old j.node j.sources ready.shares numbers = has_shares m.geometry trie m old j ready.shares numbers refl refl shaped ready.stage_is keeps in
+    let is_change : change ≡ change_for levels j.node (length j.sources) ready.shares numbers = ready.change_is ∙ ap (λ l. change_for l j.node (length j.sources) ready.shares numbers) shaped.same in
+    let fresh : SameExtents m.geometry old new numbers = subst (λ (s : Stage). SameExtents m.geometry old new (taken_in s)) ready.stage_is filled in
+    let pile : List ℕ = (node_at trie j.node).tables in
+    let items : List Item = pile_items m.geometry old pile in
+    let own : Share = rewrite_share j.node items in
+    let whole : length pile ≡ length j.sources = shaped.whole last in
+    let sources : j.sources ≡ pile = sym shaped.oldest ∙ ap (λ n. take n pile) (sym whole) ∙ take-length pile in
+    let are : ready.shares ≡ own ∷ [] = has.are ∙ ap (λ b. cond b (rewrite_share j.node (pile_items m.geometry old j.sources) ∷ []) (deal_shares trie j.node (pile_items m.geometry old j.sources))) last ∙ ap (λ xs. rewrite_share j.node (pile_items m.geometry old xs) ∷ []) sources in
+    let count : length numbers ≡ extents_for levels (own ∷ []) = has.count ∙ ap (extents_for levels) are in
+    let gets = rewrite-given m.geometry old levels j.node items numbers last count (subst (λ ss. AllZip (Holds m.geometry old) numbers (all_contents levels ss numbers)) are has.held) in
+    record {
+      tables = take (length own.parts) numbers;
+      groups = drop (length own.parts) numbers;
+      is = is_change ∙ ap (λ b. cond b (rewriting j.node (all_given levels ready.shares numbers)) (deal j.node (length j.sources) (all_given levels ready.shares numbers))) last
+          ∙ ap (λ ss. rewriting j.node (all_given levels ss numbers)) are ∙ ap (λ xs. rewrite j.node (take (length own.parts) xs) (drop (length own.parts) xs)) (own_first levels own numbers count);
+      gets = gets-same m.geometry old new (record { node = j.node; tables = take (length own.parts) numbers; kept_groups = 0; groups = drop (length own.parts) numbers }) own tt
+          (subst (SameExtents m.geometry old new) (sym (take-append-drop (length own.parts) numbers)) fresh) gets;
+    }
+
 -- THE COMMIT OF A JOB: where its extents and those that were named are as before
 pub job-committed : (old new : Image) (o p : Opened) (j : JobView) (change : Change) (header : Header) (s : State) → open_image old ≡ Ok o → open_image new ≡ Ok p → Stands old s → p.named.geometry ≡ o.named.geometry
     → change_of j ≡ Some change → p.named.manifest ≡ after_commit o.named.manifest change header → may_commit o.named.geometry.levels o.named.manifest change header ≡ true → p.groups ≡ o.groups
@@ -173,21 +209,9 @@ job-committed old new o p j change header s opens_old opens_new st geometry chan
 
     by_level : (b : Bool) → is_last_level levels j.node ≡ b → Stands new s
     by_level true last =
-        let pile : List ℕ = (node_at trie j.node).tables in
-        let items : List Item = pile_items o.named.geometry old pile in
-        let own : Share = rewrite_share j.node items in
-        let whole : length pile ≡ length j.sources = shaped.whole last in
-        let sources : j.sources ≡ pile = sym shaped.oldest ∙ ap (λ n. take n pile) (sym whole) ∙ take-length pile in
-        let are : ready.shares ≡ own ∷ [] = has.are ∙ ap (λ b. cond b (rewrite_share j.node (pile_items o.named.geometry old j.sources) ∷ []) (deal_shares trie j.node (pile_items o.named.geometry old j.sources))) last ∙ ap (λ xs. rewrite_share j.node (pile_items o.named.geometry old xs) ∷ []) sources in
-        let count : length numbers ≡ extents_for levels (own ∷ []) = has.count ∙ ap (extents_for levels) are in
-        let is : change ≡ rewrite j.node (take (length own.parts) numbers) (drop (length own.parts) numbers) =
-        is_change ∙ ap (λ b. cond b (rewriting j.node (all_given levels ready.shares numbers)) (deal j.node (length j.sources) (all_given levels ready.shares numbers))) last
-        ∙ ap (λ ss. rewriting j.node (all_given levels ss numbers)) are ∙ ap (λ xs. rewrite j.node (take (length own.parts) xs) (drop (length own.parts) xs)) (own_first levels own numbers count) in
-        let m = moved (rewrite j.node (take (length own.parts) numbers) (drop (length own.parts) numbers)) is in
-        let gets = rewrite-given o.named.geometry old levels j.node items numbers last count (subst (λ ss. AllZip (Holds o.named.geometry old) numbers (all_contents levels ss numbers)) are has.held) in
-        rewrite-committed old new o p j.node (take (length own.parts) numbers) (drop (length own.parts) numbers) header s opens_old opens_new st geometry m.0 m.1 groups kept
-        (gets-same o.named.geometry old new (record { node = j.node; tables = take (length own.parts) numbers; kept_groups = 0; groups = drop (length own.parts) numbers }) own tt
-        (subst (SameExtents o.named.geometry old new) (sym (take-append-drop (length own.parts) numbers)) fresh) gets)
+        let r = ready-rewrites o.named old new j change change_is last filled shaped keeps in
+        let m = moved (rewrite j.node r.tables r.groups) r.is in
+        rewrite-committed old new o p j.node r.tables r.groups header s opens_old opens_new st geometry m.0 m.1 groups kept r.gets
     by_level false inner =
         let children : List ChildChange = all_given levels ready.shares numbers in
         let pile : List ℕ = (node_at trie j.node).tables in
@@ -201,6 +225,20 @@ job-committed old new o p j change header s opens_old opens_new st geometry chan
         (all_gets_same o.named.geometry old new children ready.shares (piles_same o.named.geometry old new trie ready.shares kept behind)
         (subst (SameExtents o.named.geometry old new) (sym (given_extents levels ready.shares numbers has.count)) fresh)
         (all-given o.named.geometry old levels ready.shares numbers has.held)))
+
+-- the change of an inner node's ready job is a deal of its tables
+pub record DealsNode (id : NodeId) (dropped : ℕ) (change : Change) : Type 0 where
+  pub children : List ChildChange
+  pub is : change ≡ deal id dropped children
+
+pub ready-deals : (levels : ℕ) (trie : Trie) (j : JobView) (change : Change) → change_of j ≡ Some change → is_last_level levels j.node ≡ false → IsShaped levels trie j → DealsNode j.node (length j.sources) change
+ready-deals levels trie j change change_is inner shaped =
+    let ready = job-ready j change change_is in
+    record {
+      children = all_given levels ready.shares ready.numbers;
+      is = ready.change_is ∙ ap (λ l. change_for l j.node (length j.sources) ready.shares ready.numbers) shaped.same
+          ∙ ap (λ b. cond b (rewriting j.node (all_given levels ready.shares ready.numbers)) (deal j.node (length j.sources) (all_given levels ready.shares ready.numbers))) inner;
+    }
 
 -- ---- its change fits
 

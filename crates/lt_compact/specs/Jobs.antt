@@ -121,6 +121,10 @@ KeepsJob m image j = KeepsStage m image j.node j.sources j.stage
 abbrev pub change_of : JobView → Option Change
 change_of j = if is_filled j.stage then change_in j.levels j.node j.sources j.stage else None
 
+-- a job's tables are the whole pile that its node has in the trie
+abbrev pub is_whole : Trie → JobView → Bool
+is_whole trie j = length j.sources == length (node_at trie j.node).tables
+
 -- whether a last-level node with these newest items has slack: its versions are loose, or a rewriting needs fewer
 -- extents than the node has
 abbrev pub is_told_slack : ℕ → Trie → NodeId → List Item → Bool → Bool

@@ -6,7 +6,7 @@ ghost use Rattle.lt_terms.specs.Bytes.{is_in};
 ghost use Rattle.lt_alloc.specs.Extents.{is_free};
 ghost use Rattle.lt_format.specs.Trie.{all_distinct, is_last_level, node_at};
 ghost use Rattle.lt_node.specs.Changing.{change_of as change_shown};
-ghost use Rattle.lt_compact.specs.Jobs.{begun, change_of, is_filled, taken_in};
+ghost use Rattle.lt_compact.specs.Jobs.{begun, change_of, is_filled, is_whole, taken_in};
 ghost use Rattle.lt_compact.specs.Extents.{AllTaken, filters_in};
 ghost use Rattle.lt_compact.specs.Inside.{stage_in};
 
@@ -94,6 +94,20 @@ impl Job {
         }
     }
 
+    /// The node whose tables are dealt or rewritten.
+    pub fn node(&self) -> NodeId
+        ensures { result ≡ self.now.node }
+    {
+        self.node
+    }
+
+    /// Whether the tables are the whole pile that the node has by now.
+    pub fn is_whole(&self, trie: &Trie) -> bool
+        ensures { result ≡ is_whole trie.now.nodes self.now }
+    {
+        self.sources.len() == trie.pile(self.node).len()
+    }
+
     /// The filters of the tables that a ready deal built for inner children, in the order in which the
     /// change names them. Takes no memory.
     pub fn into_filters(self) -> Vec<FilterPage>
@@ -101,6 +115,16 @@ impl Job {
         ensures { result.items ≡ filters_in self self.stage }
     {
         self.filters
+    }
+
+    /// The extents that the job has reserved.
+    pub fn reserved_numbers(&self) -> &[u32]
+        ensures { result.now ≡ taken_in self.now.stage }
+    {
+        match &self.stage {
+            Stage::Filling { numbers, .. } => numbers,
+            Stage::Scanning(_) | Stage::Planned { .. } => &[],
+        }
     }
 
     /// Gives back what the job reserved.

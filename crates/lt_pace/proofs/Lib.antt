@@ -1,2 +1,2 @@
-mod CandidateLaws
-mod MarkLaws
+pub mod CandidateLaws
+pub mod MarkLaws

@@ -1,7 +1,6 @@
 //! Marks of nodes.
 
-ghost use Rattle.std.specs.Prelude.{◌≡◌, ◌<◌, ◌≤◌, IfOk, IsTrue};
-ghost use Rattle.lt_format.specs.Trie.{is_node};
+ghost use Rattle.std.specs.Prelude.{◌≡◌, ◌<◌, ◌≤◌, IfOk, slice_set};
 ghost use Rattle.lt_pace.specs.Marks.{is_marked, marked, most_nodes, no_marks, place_of, unmarked};
 
 use lt_format::NodeId;
@@ -40,20 +39,27 @@ impl Marks {
         })
     }
 
-    /// Marks a node.
+    /// Marks a node, if a trie of five levels has it.
     pub fn mark(&mut self, node: NodeId)
-        requires { IsTrue (is_node 5 node) }
         ensures { self.new ≡ marked self.old node }
     {
-        self.flags[place_of(node)] = true;
+        self.set(node, true);
     }
 
     /// Takes the mark off a node.
     pub fn clear(&mut self, node: NodeId)
-        requires { IsTrue (is_node 5 node) }
         ensures { self.new ≡ unmarked self.old node }
     {
-        self.flags[place_of(node)] = false;
+        self.set(node, false);
+    }
+
+    fn set(&mut self, node: NodeId, value: bool)
+        ensures { self.new ≡ slice_set self.old (place_of node) value }
+    {
+        let place = place_of(node);
+        if place < NODES {
+            self.flags[place] = value;
+        }
     }
 
     /// Takes the marks off all nodes.

@@ -2,8 +2,7 @@
 
 ghost use Rattle.std.specs.Prelude.{◌≡◌, false, IsErr, OnOk};
 ghost use Rattle.std.specs.Option.{ForSome};
-ghost use Rattle.lt_device.specs.Calls.{OnlyWrites};
-ghost use Rattle.lt_device.specs.Moments.{ConfinedTo};
+ghost use Rattle.lt_device.specs.Calls.{OnlyWrites, TouchesOnly};
 ghost use Rattle.lt_format.specs.Layout.{gate_page};
 ghost use Rattle.lt_redo.specs.Slots.{HasZeroGates, InLogArea, IsCleared, LiesWithin};
 
@@ -23,8 +22,7 @@ pub fn close_gates<D: Device>(
     ensures closed { OnOk result (ForSome (D.state device.new).shown (IsCleared geometry.now area)) }
     ensures zeros { OnOk result (ForSome (D.state device.new).shown
         (HasZeroGates geometry.now area)) }
-    ensures confined { ConfinedTo (InLogArea geometry.now area) (D.state device.old)
-        (D.state device.new) }
+    ensures touches { TouchesOnly D.Device (InLogArea geometry.now area) device.old device.new }
     ensures calls { OnlyWrites D.Device (IsErr result) device.old device.new }
 {
     for slot in 0..geometry.slots {

@@ -5,9 +5,9 @@ ghost use Rattle.std.specs.Prelude.{IsTrue, IfOk, IsOk, IsErr, IsErrOf, OnOk, On
 ghost use Rattle.std.specs.List.{list_all};
 ghost use Rattle.lt_terms.specs.Items.{is_valid, total_cost};
 ghost use Rattle.lt_item.specs.Views.{item_of};
-ghost use Rattle.lt_device.specs.Calls.{OnlyReads, OnlyWrites};
+ghost use Rattle.lt_device.specs.Calls.{OnlyReads, OnlyWrites, TouchesOnly};
 ghost use Rattle.lt_device.specs.Faults.{FaultIn};
-ghost use Rattle.lt_device.specs.Moments.{ConfinedTo, UnsyncedIn, MayOnlyLeave};
+ghost use Rattle.lt_device.specs.Moments.{UnsyncedIn, MayOnlyLeave};
 ghost use Rattle.lt_format.specs.Layout.{is_geometry, extent_block};
 ghost use Rattle.lt_format.specs.Log.{group_room, log_fits};
 ghost use Rattle.lt_redo.specs.LogState.{AnyMoment, Committed, EmptiesOther, HasNoRoom, HasSlot, HasZeroOther};
@@ -184,8 +184,7 @@ impl Log {
 
         // The slot holds the group in its one spelling, whatever stood on the device before.
         ensures spelled { OnOk result (Spelled self.old (D.state device.new)) }
-        ensures confined { ConfinedTo (InNextSlot self.old)
-            (D.state device.old) (D.state device.new) }
+        ensures touches { TouchesOnly D.Device (InNextSlot self.old) device.old device.new }
         ensures sure { OnOk result (0 < length self.old.pending
             → UnsyncedIn (λ _. ⊥) (D.state device.new)) }
         ensures calls { OnlyWrites D.Device (IsErr result) device.old device.new }
@@ -216,7 +215,7 @@ impl Log {
         ensures err { OnErr result (self.new ≡ self.old) }
         ensures zeros { OnOk result (MayOnlyLeave (HasZeroOther self.old) (D.state device.new)) }
         ensures empty { OnOk result (EmptiesOther self.old (D.state device.new)) }
-        ensures confined { ConfinedTo (InOther self.old) (D.state device.old) (D.state device.new) }
+        ensures touches { TouchesOnly D.Device (InOther self.old) device.old device.new }
         ensures sure { OnOk result (UnsyncedIn (λ _. ⊥) (D.state device.new)) }
         ensures calls { OnlyWrites D.Device (IsErr result) device.old device.new }
     {

@@ -1,8 +1,7 @@
 //! One slot of a log area: a gate, and the content behind it.
 
 ghost use Rattle.std.specs.Prelude.{◌≡◌, ◌<◌, true, IsErr, OnOk};
-ghost use Rattle.lt_device.specs.Calls.{OnlyWrites};
-ghost use Rattle.lt_device.specs.Moments.{ConfinedTo};
+ghost use Rattle.lt_device.specs.Calls.{OnlyWrites, TouchesOnly};
 ghost use Rattle.lt_format.specs.Layout.{log_content, gate_page};
 ghost use Rattle.lt_redo.specs.Slots.{HasWritten, InSlot, WritesGroup};
 
@@ -28,8 +27,7 @@ pub fn write_slot<D: Device>(
         (D.state device.new) }
     ensures written { OnOk result (HasWritten geometry.now area slot content.now
         (D.state device.old) (D.state device.new)) }
-    ensures confined { ConfinedTo (InSlot geometry.now area slot) (D.state device.old)
-        (D.state device.new) }
+    ensures touches { TouchesOnly D.Device (InSlot geometry.now area slot) device.old device.new }
     ensures calls { OnlyWrites D.Device (IsErr result) device.old device.new }
 {
     let gate = geometry.log_gate(area, slot);

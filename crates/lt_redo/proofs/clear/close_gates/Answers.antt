@@ -1,17 +1,17 @@
 use Rattle.std.proofs.Common.{◌≡◌, ℕ, ◌<◌, subst, List, false, arith}
 use Rattle.lt_device.specs.State.{written}
 use Rattle.lt_device.proofs.CallLaws.{writes_block}
-use Rattle.lt_device.proofs.Runs.{confined_writes}
+use Rattle.lt_device.proofs.TouchLaws.{touches-writes}
 use Rattle.lt_format.specs.Layout.{log_gate, gate_page}
 use Rattle.lt_redo.specs.Slots.{InLogArea}
 use Rattle.lt_redo.proofs.CommitLaws.{wrote_at, written_at}
 use Rattle.lt_redo.proofs.ClearLaws.{ClosedSoFar-more}
 use Rattle.lt_redo.proofs.clear.close_gates.Goals as goal
 
-pub returns-in_err-write-clause-confined : goal.returns-in_err-write-clause-confined
-returns-in_err-write-clause-confined g c =
+pub returns-in_err-write-clause-touches : goal.returns-in_err-write-clause-touches
+returns-in_err-write-clause-touches g c =
     let inside : InLogArea c.args.geometry.now c.args.area c.log_gate.result = (omega (arith, c.log_gate.ensures), omega (arith, c.log_gate.ensures, c.loop-slot-test.true)) in
-    confined_writes c.write.ensures.wrote c.loop-slot.invariant.confined inside
+    touches-writes c.loop-slot.invariant.touches c.write.ensures.wrote inside
 
 pub loop-slot-preserved : goal.loop-slot-preserved
 loop-slot-preserved g c =
@@ -22,6 +22,6 @@ loop-slot-preserved g c =
     let in_range : log_gate geometry c.args.area c.loop-slot.slot < g.D.Device.blocks c.loop-slot.device = omega (arith, c.loop-slot.invariant.calls.size, c.requires.within, c.loop-slot-test.true) in
     record {
       closed = ClosedSoFar-more geometry c.args.area c.loop-slot.slot _ _ _ c.loop-slot.invariant.closed (wrote_at c.log_gate.ensures c.write.ensures.wrote) in_range is;
-      confined = confined_writes c.write.ensures.wrote c.loop-slot.invariant.confined inside;
+      touches = touches-writes c.loop-slot.invariant.touches c.write.ensures.wrote inside;
       calls = writes_block c.loop-slot.invariant.calls c.write.ensures.size c.write.ensures.count c.write.ensures.cause;
     }

@@ -1,7 +1,8 @@
 use Rattle.std.proofs.Common.{◌≡◌, ℕ, ◌+◌, ◌<◌, sym, ap, subst, ◌∙◌, inl, inr, length, arith}
 use Rattle.std.proofs.Common.{List, true}
 use Rattle.std.proofs.lemmas.Result.{on_ok_weaker}
-use Rattle.lt_device.proofs.Runs.{syncs, confined_begins, confined_writes}
+use Rattle.lt_device.proofs.Runs.{syncs}
+use Rattle.lt_device.proofs.TouchLaws.{touches-none, touches-syncs, touches-writes}
 use Rattle.lt_device.proofs.Rest.{unsynced_none}
 use Rattle.lt_device.specs.State.{written}
 use Rattle.lt_format.specs.Layout.{log_gate, log_content, gate_page}
@@ -58,14 +59,17 @@ returns-clause-written g c = on_ok_weaker c.sync-2.result (λ sure.
       sure = unsynced_none _ sure;
     }) c.sync-2.ensures.ok
 
-pub returns-in_err-write-clause-confined : goal.returns-in_err-write-clause-confined
-returns-in_err-write-clause-confined g c = confined_writes c.write.ensures.wrote (confined_begins _) (inr (ap (λ k. k + 1) c.log_gate-gate.ensures))
+pub returns-in_err-write-clause-touches : goal.returns-in_err-write-clause-touches
+returns-in_err-write-clause-touches g c = touches-writes (touches-none _) c.write.ensures.wrote (inr (ap (λ k. k + 1) c.log_gate-gate.ensures))
 
-pub returns-in_err-sync-clause-confined : goal.returns-in_err-sync-clause-confined
-returns-in_err-sync-clause-confined g c = syncs c.sync.ensures.ended (confined_writes c.write.ensures.wrote (confined_begins _) (inr (ap (λ k. k + 1) c.log_gate-gate.ensures)))
+pub returns-in_err-sync-clause-touches : goal.returns-in_err-sync-clause-touches
+returns-in_err-sync-clause-touches g c = touches-syncs (touches-writes (touches-none _) c.write.ensures.wrote (inr (ap (λ k. k + 1) c.log_gate-gate.ensures))) c.sync.ensures.ended
 
-pub returns-in_err-write-2-clause-confined : goal.returns-in_err-write-2-clause-confined
-returns-in_err-write-2-clause-confined g c = confined_writes c.write-2.ensures.wrote (syncs c.sync.ensures.ended (confined_writes c.write.ensures.wrote (confined_begins _) (inr (ap (λ k. k + 1) c.log_gate-gate.ensures)))) (inl c.log_gate-gate.ensures)
+pub returns-in_err-write-2-clause-touches : goal.returns-in_err-write-2-clause-touches
+returns-in_err-write-2-clause-touches g c =
+    touches-writes (touches-syncs (touches-writes (touches-none _) c.write.ensures.wrote (inr (ap (λ k. k + 1) c.log_gate-gate.ensures))) c.sync.ensures.ended) c.write-2.ensures.wrote (inl c.log_gate-gate.ensures)
 
-pub returns-clause-confined : goal.returns-clause-confined
-returns-clause-confined g c = syncs c.sync-2.ensures.ended (confined_writes c.write-2.ensures.wrote (syncs c.sync.ensures.ended (confined_writes c.write.ensures.wrote (confined_begins _) (inr (ap (λ k. k + 1) c.log_gate-gate.ensures)))) (inl c.log_gate-gate.ensures))
+pub returns-clause-touches : goal.returns-clause-touches
+returns-clause-touches g c =
+    let content = touches-syncs (touches-writes (touches-none _) c.write.ensures.wrote (inr (ap (λ k. k + 1) c.log_gate-gate.ensures))) c.sync.ensures.ended in
+    touches-syncs (touches-writes content c.write-2.ensures.wrote (inl c.log_gate-gate.ensures)) c.sync-2.ensures.ended

@@ -1,24 +1,25 @@
 use Rattle.std.proofs.Common.{ℕ, ◌-◌, [], subst}
 use Rattle.lt_terms.specs.Bytes.{Image}
-use Rattle.lt_device.specs.Moments.{ConfinedTo, MayLeave}
+use Rattle.lt_device.specs.Calls.{TouchesOnly}
+use Rattle.lt_device.specs.Moments.{MayLeave}
 use Rattle.lt_device.proofs.Rest.{unsynced_none}
-use Rattle.lt_device.proofs.Runs.{syncs}
+use Rattle.lt_device.proofs.TouchLaws.{touches-syncs}
 use Rattle.lt_redo.specs.LogState.{LogState, other_area}
 use Rattle.lt_redo.specs.Slots.{HasLog, HasZeroGates, InLogArea}
 use Rattle.lt_redo.proofs.ClearLaws.{zeros_sure, zeros_cleared, has_log-cleared}
 use Rattle.lt_redo.proofs.log.Log.clear_other.Goals as goal
 
-pub returns-in_err-close_gates-clause-confined : goal.returns-in_err-close_gates-clause-confined
-returns-in_err-close_gates-clause-confined g c =
-    subst (λ (s : LogState). ConfinedTo (InLogArea s.geometry (other_area s.area)) (g.D.Device.state c.args.device.now) (g.D.Device.state c.close_gates.new.device)) c.self.view_is c.close_gates.ensures.confined
+pub returns-in_err-close_gates-clause-touches : goal.returns-in_err-close_gates-clause-touches
+returns-in_err-close_gates-clause-touches g c =
+    subst (λ (s : LogState). TouchesOnly g.D.Device (InLogArea s.geometry (other_area s.area)) c.args.device.now c.close_gates.new.device) c.self.view_is c.close_gates.ensures.touches
 
-pub returns-in_err-sync-clause-confined : goal.returns-in_err-sync-clause-confined
-returns-in_err-sync-clause-confined g c =
-    subst (λ (s : LogState). ConfinedTo (InLogArea s.geometry (other_area s.area)) (g.D.Device.state c.args.device.now) (g.D.Device.state c.sync.new.self)) c.self.view_is (syncs c.sync.ensures.ended c.close_gates.ensures.confined)
+pub returns-in_err-sync-clause-touches : goal.returns-in_err-sync-clause-touches
+returns-in_err-sync-clause-touches g c =
+    subst (λ (s : LogState). TouchesOnly g.D.Device (InLogArea s.geometry (other_area s.area)) c.args.device.now c.sync.new.self) c.self.view_is (touches-syncs c.close_gates.ensures.touches c.sync.ensures.ended)
 
-pub returns-clause-confined : goal.returns-clause-confined
-returns-clause-confined g c =
-    subst (λ (s : LogState). ConfinedTo (InLogArea s.geometry (other_area s.area)) (g.D.Device.state c.args.device.now) (g.D.Device.state c.sync.new.self)) c.self.view_is (syncs c.sync.ensures.ended c.close_gates.ensures.confined)
+pub returns-clause-touches : goal.returns-clause-touches
+returns-clause-touches g c =
+    subst (λ (s : LogState). TouchesOnly g.D.Device (InLogArea s.geometry (other_area s.area)) c.args.device.now c.sync.new.self) c.self.view_is (touches-syncs c.close_gates.ensures.touches c.sync.ensures.ended)
 
 pub returns-clause-zeros : goal.returns-clause-zeros
 returns-clause-zeros g c =
