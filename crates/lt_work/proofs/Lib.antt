@@ -1,0 +1,5 @@
+pub mod CandidateLaws
+pub mod CommitLaws
+pub mod EndLaws
+pub mod OutlastLaws
+pub mod StepLaws

@@ -1,0 +1,11 @@
+use Rattle.lt_work.proofs.EndLaws.{advances-less, commits-less, settled-image}
+use Rattle.lt_work.proofs.laws.work_ends.Goals as goal
+
+pub returns-clause-advances : goal.returns-clause-advances
+returns-clause-advances c = advances-less
+
+pub returns-clause-commits : goal.returns-clause-commits
+returns-clause-commits c = commits-less
+
+pub returns-clause-settled : goal.returns-clause-settled
+returns-clause-settled c = settled-image
