@@ -68,7 +68,7 @@ or_joins : (a b c : Option Item) → option_or a (option_or b c) ≡ option_or (
 or_joins None b c = refl
 or_joins (Some v) b c = refl
 
-module _ (v : StoreView) (d : State) (device : told.State) (o : IsOpen v d device) (filters : ℕ) (k : IsKept v.named v.log v.memory v.taken filters v.writes) (key : List ℕ) where
+module _ (v : StoreView) (d : State) (device : told.State) (o : IsOpen v d device) (filters : ℕ) (k : IsKept v.named v.log v.memory v.taken filters v.writes v.work) (key : List ℕ) where
   -- what the tables on the key's path have of it
   below : Option Item
   below = at_stops (items_at v.named.geometry o.rest.image) v.named.geometry.levels v.named.manifest.trie key

@@ -7,10 +7,14 @@ use Rattle.lt_alloc.specs.Extents.{is_free, free_count}
 use Rattle.lt_alloc.proofs.StackLaws.{is_free-within}
 use Rattle.lt_format.specs.Snapshot.{Named}
 use Rattle.lt_format.specs.Trie.{named, table_total, all_distinct, all_below}
-use Rattle.lt_format.proofs.Numbers.{times, times-append, times-absent, times-distinct, times-below, below-times, few-below}
+use Rattle.lt_format.proofs.Numbers.{times, times-append, times-absent, times-distinct, times-below, below-times, few-below, length-distinct}
 use Rattle.lt_redo.specs.LogState.{LogState}
 use Rattle.lt_terms.specs.Items.{Item}
-use Rattle.lt_store.specs.Kept.{IsKept}
+use Rattle.lt_image.specs.Versions.{free_extents}
+use Rattle.lt_manifest.specs.Promise as manifests
+use Rattle.lt_work.specs.Work.{WorkView, reserved_by}
+use Rattle.lt_work.proofs.OutlastLaws.{suits-apart, suits-below}
+use Rattle.lt_store.specs.Kept.{IsKept, in_use}
 use Rattle.lt_node.proofs.TotalLaws.{total_named}
 
 -- the free numbers from k on
@@ -73,8 +77,21 @@ apart-few n taken xs len free distinct below =
     beyond x past = at x ∙ outside x (is_free taken x) refl past
 
 -- the tables and the free extents of a store
-pub tables-free : (n : Named) (log : LogState) (memory : List Item) (taken : List Bool) (filters writes : ℕ) → IsKept n log memory taken filters writes → table_total n.manifest.trie + free_count taken ≤ n.manifest.header.extents
-tables-free n log memory taken filters writes k =
-    let few = apart-few n.manifest.header.extents taken (named n.manifest.trie) k.taken_named.len k.taken_named.free k.manifest.trie.distinct k.manifest.trie.below in
+pub tables-free : (n : Named) → manifests.IsKept n → table_total n.manifest.trie + free_extents n ≤ n.manifest.header.extents
+tables-free n k =
+    let few = length-distinct n.manifest.header.extents (named n.manifest.trie) k.trie.distinct k.trie.below in
     let tables = total_named n.manifest.trie in
     omega (arith, few, tables)
+
+-- the extents that are in use stand there once
+pub use-apart : (n : Named) (log : LogState) (memory : List Item) (taken : List Bool) (filters writes : ℕ) (work : WorkView) → IsKept n log memory taken filters writes work → all_distinct (in_use n work) ≡ true
+use-apart n log memory taken filters writes work k = suits-apart n.geometry.levels n.manifest.trie taken work k.suits k.manifest.trie.distinct
+
+-- and are extents of the store
+pub use-below : (n : Named) (log : LogState) (memory : List Item) (taken : List Bool) (filters writes : ℕ) (work : WorkView) → IsKept n log memory taken filters writes work → all_below n.manifest.header.extents (in_use n work) ≡ true
+use-below n log memory taken filters writes work k =
+    below-times n.manifest.header.extents (in_use n work) (λ x past. omega (arith, times-append x (named n.manifest.trie) (reserved_by work), times-below n.manifest.header.extents (named n.manifest.trie) k.manifest.trie.below x past, absent x past (is_in x (reserved_by work)) refl))
+  where
+    absent : (x : ℕ) → n.manifest.header.extents ≤ x → (b : Bool) → is_in x (reserved_by work) ≡ b → times x (reserved_by work) ≡ 0
+    absent x past false is = times-absent x (reserved_by work) is
+    absent x past true is = let small = suits-below n.geometry.levels n.manifest.trie taken work k.suits x is in let size = k.taken_in_use.len in absurd (omega (arith, small, size, past))

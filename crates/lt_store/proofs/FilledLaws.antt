@@ -3,7 +3,7 @@ use Rattle.std.proofs.Common.{◌≡◌, ℕ, true, sym, subst, List, [], Option
 use Rattle.std.specs.List.{AllZip}
 use Rattle.lt_terms.specs.Bytes.{Image}
 use Rattle.lt_terms.specs.Items.{Item}
-use Rattle.lt_device.specs.Moments.{ConfinedTo, MayLeave, UnsyncedIn}
+use Rattle.lt_device.specs.Moments.{ConfinedTo, MayLeave, ShowsSameOutside, UnsyncedIn}
 use Rattle.lt_device.specs.State as told
 use Rattle.lt_format.specs.declared.geometry.Geometry.{Geometry}
 use Rattle.lt_language.specs.Machine.{State}
@@ -33,16 +33,17 @@ pub cleared-stays : (v : StoreView) (d : State) (s0 s1 : told.State) → SomeKep
 cleared-stays v d s0 s1 k o clearing = same-stays v d s0 s1 o (clearing-stays v d s0 s1 o (kept-fits v d s0 k.taken _ _ o k.kept) clearing)
 
 pub filled : (v : StoreView) (d : State) (s0 s1 s2 : told.State) (log : LogState) (numbers : List ℕ) (g : Geometry) (filters : List (Option (List ℕ)))
-    → SomeKept v → AreFree v.named numbers → log ≡ record v.log { cleared = true } → ConfinedTo (InLogArea v.log.geometry (other_area v.log.area)) s0 s1 → UnsyncedIn (λ _. ⊥) s1
-    → g ≡ v.named.geometry → ConfinedTo (InExtents g numbers) s1 s2 → KeepsOthers numbers v.kept filters → IsOpen v d s0 → IsFilled v d s0 s1 s2 log numbers g filters
-filled v d s0 s1 s2 log numbers g filters k free log_is clearing sure g_is building others o =
+    → SomeKept v → AreFree v.named v.work numbers → log ≡ record v.log { cleared = true } → ConfinedTo (InLogArea v.log.geometry (other_area v.log.area)) s0 s1 → ShowsSameOutside (InLogArea v.log.geometry (other_area v.log.area)) s0.shown s1.shown → UnsyncedIn (λ _. ⊥) s1
+    → g ≡ v.named.geometry → ConfinedTo (InExtents g numbers) s1 s2 → ShowsSameOutside (InExtents g numbers) s1.shown s2.shown → KeepsOthers numbers v.kept filters → IsOpen v d s0 → IsFilled v d s0 s1 s2 log numbers g filters
+filled v d s0 s1 s2 log numbers g filters k free log_is clearing clearing_shows sure g_is building building_shows others o =
     let fits : Fits v = kept-fits v d s0 k.taken _ _ o k.kept in
     let x : StoreView = record v { log = log } in
-    let o1 : IsOpen x d s1 = subst (λ (l : LogState). IsOpen (record v { log = l }) d s1) (sym log_is) (cleared-open v d s0 s1 o fits clearing sure) in
+    let o1 : IsOpen x d s1 = subst (λ (l : LogState). IsOpen (record v { log = l }) d s1) (sym log_is) (cleared-open v d s0 s1 o fits clearing clearing_shows sure) in
     let fits1 : Fits x = subst (λ (l : LogState). Fits (record v { log = l })) (sym log_is) (cleared-fits v fits) in
     let inside : ConfinedTo (InExtents v.named.geometry numbers) s1 s2 = subst (λ h. ConfinedTo (InExtents h numbers) s1 s2) g_is building in
+    let shows : ShowsSameOutside (InExtents v.named.geometry numbers) s1.shown s2.shown = subst (λ h. ShowsSameOutside (InExtents h numbers) s1.shown s2.shown) g_is building_shows in
     let same = building-stays x d numbers s1 s2 o1 fits1 free inside in
-    let o2 : IsOpen (with_kept x filters) d s2 = built-open x d numbers filters s1 s2 o1 fits1 free others inside in
+    let o2 : IsOpen (with_kept x filters) d s2 = built-open x d numbers filters s1 s2 o1 fits1 free others inside shows in
     record {
       stays = stays-joins d s0 s1 s2 (same-stays x d s1 s2 o1 same) (cleared-stays v d s0 s1 k o clearing);
       opened = o2;

@@ -6,7 +6,7 @@ use Rattle.lt_terms.specs.Bytes.{Image, block_at}
 use Rattle.lt_terms.specs.Items.{Item}
 use Rattle.lt_device.specs.State.{SameOutside}
 use Rattle.lt_device.specs.State as told
-use Rattle.lt_device.specs.Moments.{MayLeave, Leaves, ShownNow, ConfinedTo, UnsyncedIn}
+use Rattle.lt_device.specs.Moments.{MayLeave, Leaves, ShownNow, ShowsSameOutside, ConfinedTo, UnsyncedIn}
 use Rattle.lt_device.proofs.Images.{same_outside_joins, same_outside_widens}
 use Rattle.lt_device.proofs.Runs.{weakens, both}
 use Rattle.lt_language.specs.Machine.{State}
@@ -34,11 +34,13 @@ use Rattle.lt_image.proofs.OpenLaws.{is-opens}
 use Rattle.lt_image.proofs.StandLaws.{flush-stands}
 use Rattle.lt_search.specs.Kept.{KeepsFilter}
 use Rattle.lt_search.proofs.KeepLaws.{inner-flush, inner-named}
+use Rattle.lt_work.specs.Work.{IsTrueOn, SuitsTrie, WorkView, flushed_work, reserved_by}
+use Rattle.lt_work.proofs.OutlastLaws.{flushed-true}
 use Rattle.lt_store.specs.Building.{InExtents}
 use Rattle.lt_store.specs.Flushing.{Stays, AreFree, flushed_log, flushed}
 use Rattle.lt_store.specs.Open.{IsOpen, StoreView, inner_of}
-use Rattle.lt_store.proofs.SameLaws.{Same, same-other, same-unnamed, same-names, within_all}
-use Rattle.lt_store.proofs.MomentLaws.{IsReady, open-steady, open-names, open-ready, open-agrees, open-same, open-from, keeps-same, same-ready, sure-agrees, open-image}
+use Rattle.lt_store.proofs.SameLaws.{Same, log-extents, other-extents, same-other, same-unnamed, same-names, within_all}
+use Rattle.lt_store.proofs.MomentLaws.{IsReady, open-steady, open-names, open-ready, open-agrees, open-same, open-from, keeps-same, same-ready, shown-same, sure-agrees, open-image}
 
 -- what a store in memory says of its view, whatever the device holds
 pub record Fits (v : StoreView) : Type 0 where
@@ -46,6 +48,9 @@ pub record Fits (v : StoreView) : Type 0 where
   pub area : v.log.area ≡ v.named.manifest.header.log_area
   pub start : v.log.writes ≡ v.named.manifest.header.writes
   pub area_small : v.named.manifest.header.log_area < 2
+  pub deep : 2 ≤ v.named.geometry.levels
+  pub flags : List Bool
+  pub suits : SuitsTrie v.named.geometry.levels v.named.manifest.trie flags v.work
 
 same_outside_apart : (inside : ℕ → Type 0) (a b c : Image) → SameOutside inside a b → SameOutside inside a c → SameOutside inside b c
 same_outside_apart inside a b c one two = record { size = two.size ∙ sym one.size; others = λ k out. two.others k out ∙ sym (one.others k out) }
@@ -64,22 +69,34 @@ clearing-stays v d old new o fits run =
 
 -- the log with the other area cleared fits as before
 pub cleared-fits : (v : StoreView) → Fits v → Fits (cleared v)
-cleared-fits v fits = record { geometry = fits.geometry; area = fits.area; start = fits.start; area_small = fits.area_small }
+cleared-fits v fits = record {
+  geometry = fits.geometry;
+  area = fits.area;
+  start = fits.start;
+  area_small = fits.area_small;
+  deep = fits.deep;
+  flags = fits.flags;
+  suits = fits.suits;
+}
 
 -- and once it is sure the store is open as before
-pub cleared-open : (v : StoreView) (d : State) (old new : told.State) (o : IsOpen v d old) → Fits v → ConfinedTo (InLogArea v.log.geometry (other_area v.log.area)) old new → UnsyncedIn (λ _. ⊥) new → IsOpen (cleared v) d new
-cleared-open v d old new o fits run sure =
+pub cleared-open : (v : StoreView) (d : State) (old new : told.State) (o : IsOpen v d old) → Fits v → ConfinedTo (InLogArea v.log.geometry (other_area v.log.area)) old new
+    → ShowsSameOutside (InLogArea v.log.geometry (other_area v.log.area)) old.shown new.shown → UnsyncedIn (λ _. ⊥) new → IsOpen (cleared v) d new
+cleared-open v d old new o fits run shows sure =
     let same = clearing-stays v d old new o fits run in
     let now : ShownNow new = same.shows o.rest.image o.rest.shown o.rest.tells in
-    let ready : IsReady v d o.groups now.image = same-ready v d o.groups o.rest.image now.image fits.area (same.now now.image now.tells) (open-ready v d old o) in
+    let outside = shown-same (InLogArea v.log.geometry (other_area v.log.area)) old new o.rest.image shows o.rest.shown now in
+    let outside' = subst (λ k. SameOutside (InLogArea v.named.geometry (other_area k)) o.rest.image now.image) fits.area (subst (λ g. SameOutside (InLogArea g (other_area v.log.area)) o.rest.image now.image) fits.geometry outside) in
+    let fresh = log-extents v.named.geometry v.named.manifest.header.log_area o.rest.image now.image (reserved_by v.work) fits.area_small outside' in
+    let ready : IsReady v d o.groups now.image = same-ready v d o.groups fits.flags o.rest.image now.image fits.area fits.suits (same.now now.image now.tells) fresh (open-ready v d old o) in
     let steady = open-steady v d old o in
-    open-from (cleared v) d new o.groups now (record { slots = steady.slots; memory = steady.memory }) (record { names = ready.names; stands = ready.stands; log = ready.log; filters = ready.filters })
+    open-from (cleared v) d new o.groups now (record { slots = steady.slots; memory = steady.memory }) (record { names = ready.names; stands = ready.stands; log = ready.log; filters = ready.filters; work = ready.work })
     (sure-agrees (λ n. IsTrue (is_free_block v.named n)) new now sure)
 
 -- ---- tables in free extents
 
-free-block : (m : Named) (numbers : List ℕ) → AreFree m numbers → (n : ℕ) → InExtents m.geometry numbers n → IsTrue (is_free_block m n)
-free-block m numbers free n inside =
+free-block : (m : Named) (work : WorkView) (numbers : List ℕ) → AreFree m work numbers → (n : ℕ) → InExtents m.geometry numbers n → IsTrue (is_free_block m n)
+free-block m work numbers free n inside =
     let below : inside.number < m.manifest.header.extents = free.below inside.number inside.among in
     let from = inside.from in
     let to = inside.to in
@@ -99,8 +116,8 @@ kept-filters g numbers old new image [] others apart kept = tt
 kept-filters g numbers old new image (x ∷ xs) others apart kept = (others x apart.0 ∙ kept.0, kept-filters g numbers old new image xs others apart.1 kept.1)
 
 -- free extents are not those of the inner tables
-inner-apart : (m : Named) (numbers : List ℕ) → AreFree m numbers → AllByRecursion (λ x. is_in x numbers ≡ false) (inner_of m)
-inner-apart m numbers free =
+inner-apart : (m : Named) (work : WorkView) (numbers : List ℕ) → AreFree m work numbers → AllByRecursion (λ x. is_in x numbers ≡ false) (inner_of m)
+inner-apart m work numbers free =
     inner-named (λ x. is_in x numbers ≡ false) m.geometry.levels m.manifest.trie
     (within_all (λ x. is_in x numbers ≡ false) (named m.manifest.trie) (named m.manifest.trie) (λ x there. by_number x there (is_in x numbers) refl) (λ x there. there))
   where
@@ -111,27 +128,30 @@ inner-apart m numbers free =
 abbrev pub with_kept : StoreView → List (Option (List ℕ)) → StoreView
 with_kept v kept = record v { kept = kept }
 
-pub building-stays : (v : StoreView) (d : State) (numbers : List ℕ) (old new : told.State) (o : IsOpen v d old) → Fits v → AreFree v.named numbers → ConfinedTo (InExtents v.named.geometry numbers) old new → Leaves (λ left. Same v.named o.rest.image left) old new
+pub building-stays : (v : StoreView) (d : State) (numbers : List ℕ) (old new : told.State) (o : IsOpen v d old) → Fits v → AreFree v.named v.work numbers → ConfinedTo (InExtents v.named.geometry numbers) old new → Leaves (λ left. Same v.named o.rest.image left) old new
 building-stays v d numbers old new o fits free run = keeps-same v d (InExtents v.named.geometry numbers) old new o run (λ a b names same. same-unnamed v.named numbers a b fits.area_small free.unnamed same)
 
 -- whatever was written there, the store is open as before
-pub built-open : (v : StoreView) (d : State) (numbers : List ℕ) (kept : List (Option (List ℕ))) (old new : told.State) (o : IsOpen v d old) → Fits v → AreFree v.named numbers → KeepsOthers numbers v.kept kept → ConfinedTo (InExtents v.named.geometry numbers) old new → IsOpen (with_kept v kept) d new
-built-open v d numbers kept old new o fits free others run =
+pub built-open : (v : StoreView) (d : State) (numbers : List ℕ) (kept : List (Option (List ℕ))) (old new : told.State) (o : IsOpen v d old) → Fits v → AreFree v.named v.work numbers → KeepsOthers numbers v.kept kept → ConfinedTo (InExtents v.named.geometry numbers) old new
+    → ShowsSameOutside (InExtents v.named.geometry numbers) old.shown new.shown → IsOpen (with_kept v kept) d new
+built-open v d numbers kept old new o fits free others run shows =
     let free_blocks : ℕ → Type 0 = λ n. IsTrue (is_free_block v.named n) in
     let base : Image = o.rest.image in
     let same = building-stays v d numbers old new o fits free run in
     let now : ShownNow new = same.shows base o.rest.shown o.rest.tells in
-    let ready : IsReady v d o.groups now.image = same-ready v d o.groups base now.image fits.area (same.now now.image now.tells) (open-ready v d old o) in
+    let fresh = other-extents v.named.geometry numbers (reserved_by v.work) base now.image free.unreserved (shown-same (InExtents v.named.geometry numbers) old new base shows o.rest.shown now) in
+    let ready : IsReady v d o.groups now.image = same-ready v d o.groups fits.flags base now.image fits.area fits.suits (same.now now.image now.tells) fresh (open-ready v d old o) in
     let near = λ (left : Image) (may : MayLeave new left).
     let n = run.now left may in
-    same_outside_widens _ free_blocks base left (λ k either. ⊎_elim (λ f. f) (free-block v.named numbers free k) either) (same_outside_joins free_blocks (InExtents v.named.geometry numbers) base n.image left (open-agrees v d old o n.image n.was) n.same) in
+    same_outside_widens _ free_blocks base left (λ k either. ⊎_elim (λ f. f) (free-block v.named v.work numbers free k) either) (same_outside_joins free_blocks (InExtents v.named.geometry numbers) base n.image left (open-agrees v d old o n.image n.was) n.same) in
     let steady = open-steady v d old o in
     open-from (with_kept v kept) d new o.groups now (record { slots = steady.slots; memory = steady.memory })
     (record {
       names = ready.names;
       stands = ready.stands;
       log = ready.log;
-      filters = kept-filters v.named.geometry numbers v.kept kept now.image (inner_of v.named) others (inner-apart v.named numbers free) ready.filters;
+      filters = kept-filters v.named.geometry numbers v.kept kept now.image (inner_of v.named) others (inner-apart v.named v.work numbers free) ready.filters;
+      work = ready.work;
     })
     (λ left may. same_outside_apart free_blocks base now.image left (near now.image now.tells) (near left may))
 
@@ -228,9 +248,11 @@ module _ (v : StoreView) (d : State) (old new : told.State) (o : IsOpen v d old)
       let extents : ◌≡◌ {A = ℕ → ℕ → List ℕ} (extent_at g shown) (extent_at g now.image) = λ i x c. sym (behind-extents g shown now.image has.same x c) i in
       let all : AllByRecursion (KeepsFilter g v.kept shown) (inner_of n) = inner-flush (KeepsFilter g v.kept shown) g.levels v.named.manifest.trie numbers o.filters kept in
       let filters : AllByRecursion (KeepsFilter g v.kept now.image) (inner_of n) = subst (λ (f : ℕ → ℕ → List ℕ). AllByRecursion (λ x. slice_index_or v.kept x None ≡ Some (f x 64)) (inner_of n)) extents all in
+      let work : IsTrueOn n now.image (flushed_work v.work) =
+      flushed-true v.named n shown now.image fits.flags numbers v.work fits.deep refl refl fits.suits (same_named v.named shown now.image has.same).kept (each_all (SameExtent g shown now.image) (reserved_by v.work) (λ x c small. behind-extents g shown now.image has.same x c)) o.work in
       open-from (flushed v n header) d new [] now
       (record { slots = refl; memory = refl })
-      (record { names = has.names; stands = new-stands area now.image has; log = log'; filters = filters })
+      (record { names = has.names; stands = new-stands area now.image has; log = log'; filters = filters; work = work })
       (sure-agrees (λ k. IsTrue (is_free_block n k)) new now sure)
 
   -- after the commit the store is open on the new manifest
@@ -243,8 +265,8 @@ module _ (v : StoreView) (d : State) (old new : told.State) (o : IsOpen v d old)
       (commit_open n.area run (λ left may. subst (λ (n : Named). HasNew n o.rest.image left) is (each left may)) sure kept)
 
 -- the store in memory after a flush
-pub flushed-view : (v : StoreView) (n : Named) (header : Header) (log : LogState) (memory : List Item) → v.log.pending ≡ [] → log ≡ record v.log { area = other_area v.log.area; writes = header.writes; slots = 0; cleared = false } → memory ≡ []
-    → record v { named = n; log = log; memory = memory } ≡ flushed v n header
-flushed-view v n header log memory idle is none =
+pub flushed-view : (v : StoreView) (n : Named) (header : Header) (log : LogState) (memory : List Item) (work : WorkView) → v.log.pending ≡ [] → log ≡ record v.log { area = other_area v.log.area; writes = header.writes; slots = 0; cleared = false } → memory ≡ [] → work ≡ flushed_work v.work
+    → record v { named = n; log = log; memory = memory; work = work } ≡ flushed v n header
+flushed-view v n header log memory work idle is none same =
     let log_is : log ≡ flushed_log v.log header = is ∙ (λ i. record v.log { area = other_area v.log.area; writes = header.writes; slots = 0; pending = idle i; cleared = false }) in
-    λ i. record v { named = n; log = log_is i; memory = none i }
+    λ i. record v { named = n; log = log_is i; memory = none i; work = same i }

@@ -1,5 +1,5 @@
 -- A store that a flush is due for: what a crash leaves of it, and how full it is.
-use Rattle.std.proofs.Common.{◌≡◌, ◌≢◌, ℕ, suc, ◌+◌, ◌*◌, ◌<◌, ◌≤◌, refl, sym, ap, subst, ◌∙◌, List, [], ◌∷◌, ◌++◌, length, Bool, true, false, not, ◌||◌, cond, Ok, arith, append-nil, ⊎_elim}
+use Rattle.std.proofs.Common.{◌≡◌, ◌≢◌, ℕ, suc, ◌+◌, ◌*◌, ◌<◌, ◌≤◌, refl, sym, ap, subst, ◌∙◌, List, [], ◌∷◌, ◌++◌, length, Bool, true, false, not, ◌||◌, cond, None, Ok, arith, append-nil, length-append, ⊎_elim}
 use Rattle.std.specs.Prelude.{IsTrue, ◌==◌, nat_lt}
 use Rattle.std.proofs.lemmas.Bool.{and_parts, eqb-true, ne_eqb, not-false, true≢false, cases_lt}
 use Rattle.std.proofs.lemmas.List.Sums.{sum_by-cons}
@@ -22,11 +22,12 @@ use Rattle.lt_image.specs.Standing.{HasCounts}
 use Rattle.lt_image.specs.Versions.{free_extents, Opened, open_image}
 use Rattle.lt_image.proofs.OpenLaws.{is-opens}
 use Rattle.lt_image.proofs.StandLaws.{stands-as}
-use Rattle.lt_store.specs.Kept.{IsKept}
+use Rattle.lt_work.specs.Work.{WorkView, reserved_by, reserved_for}
+use Rattle.lt_store.specs.Kept.{IsKept, in_use}
 use Rattle.lt_store.specs.Open.{IsOpen, StoreView}
 use Rattle.lt_store.specs.Taking.{is_due}
 use Rattle.lt_store.proofs.CommitLaws.{kept-fits, open-logs}
-use Rattle.lt_store.proofs.CountLaws.{apart-few}
+use Rattle.lt_store.proofs.CountLaws.{apart-few, use-apart, use-below}
 use Rattle.lt_store.proofs.MomentLaws.{open-names, open-same}
 use Rattle.lt_store.proofs.SameLaws.{same-names}
 use Rattle.lt_image.proofs.FewLaws.{full-few}
@@ -66,30 +67,39 @@ taken-named (false ∷ taken) k xs each =
     later : (i : ℕ) → 1 ≤ times (k + suc i) xs → 1 ≤ times (k + 1 + i) xs
     later i there = let e : k + suc i ≡ k + 1 + i = omega arith in subst (λ x. 1 ≤ times x xs) e there
 
-free-all : (n : Named) (log : LogState) (memory : List Item) (taken : List Bool) (filters writes : ℕ) → IsKept n log memory taken filters writes → free_count taken ≡ free_extents n
-free-all n log memory taken filters writes k =
-    let few = apart-few n.manifest.header.extents taken (named n.manifest.trie) k.taken_named.len k.taken_named.free k.manifest.trie.distinct k.manifest.trie.below in
-    let many = taken-named taken 0 (named n.manifest.trie) at in
-    let size = k.taken_named.len in
-    omega (arith, few, many, size)
+-- the extents that the manifest does not name are the free ones and those that the job in flight reserved
+pub free-all : (n : Named) (log : LogState) (memory : List Item) (taken : List Bool) (filters writes : ℕ) (work : WorkView) → IsKept n log memory taken filters writes work → free_count taken + length (reserved_by work) ≡ free_extents n
+free-all n log memory taken filters writes work k =
+    let few = apart-few n.manifest.header.extents taken (in_use n work) k.taken_in_use.len k.taken_in_use.free (use-apart n log memory taken filters writes work k) (use-below n log memory taken filters writes work k) in
+    let many = taken-named taken 0 (in_use n work) at in
+    let size = k.taken_in_use.len in
+    let both = length-append (named n.manifest.trie) (reserved_by work) in
+    omega (arith, few, many, size, both)
   where
-    at : (i : ℕ) → i < length taken → is_free taken i ≡ false → 1 ≤ times (0 + i) (named n.manifest.trie)
+    at : (i : ℕ) → i < length taken → is_free taken i ≡ false → 1 ≤ times (0 + i) (in_use n work)
     at i below is =
-        let within : i < n.manifest.header.extents = let size = k.taken_named.len in omega (arith, below, size) in
-        let there : is_in i (named n.manifest.trie) ≡ true = not-false (is_in i (named n.manifest.trie)) (sym (k.taken_named.free i within) ∙ is) in
-        let some : 1 ≤ times i (named n.manifest.trie) = ⊎_elim
-        (λ (few : times i (named n.manifest.trie) < 1). let none : times i (named n.manifest.trie) ≡ 0 = omega arith in absurd (true≢false (sym there ∙ absent-times i (named n.manifest.trie) none)))
-        (λ (some : 1 ≤ times i (named n.manifest.trie)). some)
-        (cases_lt (times i (named n.manifest.trie)) 1) in
+        let within : i < n.manifest.header.extents = let size = k.taken_in_use.len in omega (arith, below, size) in
+        let there : is_in i (in_use n work) ≡ true = not-false (is_in i (in_use n work)) (sym (k.taken_in_use.free i within) ∙ is) in
+        let some : 1 ≤ times i (in_use n work) = ⊎_elim
+        (λ (few : times i (in_use n work) < 1). let none : times i (in_use n work) ≡ 0 = omega arith in absurd (true≢false (sym there ∙ absent-times i (in_use n work) none)))
+        (λ (some : 1 ≤ times i (in_use n work)). some)
+        (cases_lt (times i (in_use n work)) 1) in
         let e : i ≡ 0 + i = omega arith in
-        subst (λ x. 1 ≤ times x (named n.manifest.trie)) e some
+        subst (λ x. 1 ≤ times x (in_use n work)) e some
+
+-- with no job in flight they are the free ones
+free-idle : (n : Named) (log : LogState) (memory : List Item) (taken : List Bool) (filters writes : ℕ) (work : WorkView) → IsKept n log memory taken filters writes work → work.job ≡ None → free_count taken ≡ free_extents n
+free-idle n log memory taken filters writes work k still =
+    let all = free-all n log memory taken filters writes work k in
+    let none : length (reserved_by work) ≡ 0 = ap (λ job. length (reserved_for job)) still in
+    omega (arith, all, none)
 
 -- ---- the images
 
 abbrev opened_of : StoreView → List (List Item) → Opened
 opened_of v groups = record { named = v.named; groups = groups }
 
-image-opens : (v : StoreView) (d : State) (s : told.State) (filters : ℕ) (o : IsOpen v d s) → IsKept v.named v.log v.memory v.taken filters v.writes → (left : Image) → MayLeave s left → open_image left ≡ Ok (opened_of v o.groups)
+image-opens : (v : StoreView) (d : State) (s : told.State) (filters : ℕ) (o : IsOpen v d s) → IsKept v.named v.log v.memory v.taken filters v.writes v.work → (left : Image) → MayLeave s left → open_image left ≡ Ok (opened_of v o.groups)
 image-opens v d s filters o k left may =
     let f = kept-fits v d s v.taken filters v.writes o k in
     let names = same-names v.named o.rest.image left (open-same v d s o left may) (open-names v d s o) in
@@ -112,14 +122,14 @@ due-logged v d s o due =
     no_items (x ∷ xs) none = absurd (omega arith)
 
 -- a flush that is due and gives more tables than extents are free: the extents are fewer than twice the writes
-pub few-extents : (v : StoreView) (d : State) (s : told.State) (filters : ℕ) (o : IsOpen v d s) → IsKept v.named v.log v.memory v.taken filters v.writes → IsTrue (is_due v) → free_count v.taken < table_total (newest v.memory) → v.named.manifest.header.extents < 2 * v.writes
-few-extents v d s filters o k due short =
+pub few-extents : (v : StoreView) (d : State) (s : told.State) (filters : ℕ) (o : IsOpen v d s) → IsKept v.named v.log v.memory v.taken filters v.writes v.work → v.work.job ≡ None → IsTrue (is_due v) → free_count v.taken < table_total (newest v.memory) → v.named.manifest.header.extents < 2 * v.writes
+few-extents v d s filters o k still due short =
     let image : Image = o.rest.image in
     let opened : Opened = opened_of v o.groups in
     let opens = image-opens v d s filters o k image o.rest.tells in
     let sound = (stands-as image opened d opens (o.rest.each image o.rest.tells)).sound in
     let same = due-logged v d s o due in
-    let free = free-all v.named v.log v.memory v.taken filters v.writes k in
+    let free = free-idle v.named v.log v.memory v.taken filters v.writes v.work k still in
     let tables : table_total (newest v.memory) ≡ flush_tables opened = ap (λ xs. table_total (newest xs)) same in
     let few : free_extents v.named < flush_tables opened = omega (arith, short, free, tables) in
     let half = full-few image opened opens sound few in
@@ -128,8 +138,8 @@ few-extents v d s filters o k due short =
     omega (arith, half, number, size)
 
 -- each image that a crash may leave is as full as the store
-pub full-image : (v : StoreView) (d : State) (s : told.State) (filters : ℕ) (o : IsOpen v d s) → IsKept v.named v.log v.memory v.taken filters v.writes → IsTrue (is_due v) → (left : Image) → MayLeave s left → IsFullImage left (table_total (newest v.memory)) (free_count v.taken)
-full-image v d s filters o k due left may =
+pub full-image : (v : StoreView) (d : State) (s : told.State) (filters : ℕ) (o : IsOpen v d s) → IsKept v.named v.log v.memory v.taken filters v.writes v.work → v.work.job ≡ None → IsTrue (is_due v) → (left : Image) → MayLeave s left → IsFullImage left (table_total (newest v.memory)) (free_count v.taken)
+full-image v d s filters o k still due left may =
     let parts = and_parts (length v.log.pending == 0) (v.log.slots == v.named.geometry.slots || nat_lt 200000 (total_cost v.memory)) due in
     let same = due-logged v d s o due in
     record {
@@ -137,14 +147,14 @@ full-image v d s filters o k due left may =
       opens = image-opens v d s filters o k left may;
       due = subst (λ n. IsTrue (n == v.named.geometry.slots || nat_lt 200000 (total_cost (items_in o.groups)))) o.slots (subst (λ xs. IsTrue (v.log.slots == v.named.geometry.slots || nat_lt 200000 (total_cost xs))) same parts.1);
       needs = ap (λ xs. table_total (newest xs)) (sym same);
-      has = sym (free-all v.named v.log v.memory v.taken filters v.writes k);
+      has = sym (free-idle v.named v.log v.memory v.taken filters v.writes v.work k still);
     }
 
 -- each image that a crash may leave has the store's numbers
-pub image-counts : (v : StoreView) (d : State) (s : told.State) (filters : ℕ) → IsOpen v d s → IsKept v.named v.log v.memory v.taken filters v.writes → (left : Image) → MayLeave s left → HasCounts left (tables_in v.named.manifest.trie) (free_count v.taken)
-image-counts v d s filters o k left may = record {
+pub image-counts : (v : StoreView) (d : State) (s : told.State) → IsOpen v d s → (left : Image) → MayLeave s left → HasCounts left (tables_in v.named.manifest.trie) (free_extents v.named)
+image-counts v d s o left may = record {
   named = v.named;
   names = (same-names v.named o.rest.image left (open-same v d s o left may) (open-names v d s o)).read;
   tables_are = refl;
-  free_are = free-all v.named v.log v.memory v.taken filters v.writes k;
+  free_are = refl;
 }

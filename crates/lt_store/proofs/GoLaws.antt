@@ -63,6 +63,7 @@ goes-append v w item d old new g =
         slots = o.slots;
         memory = ap (λ xs. xs ++ item ∷ []) o.memory ∙ append_assoc _ w.log.pending (item ∷ []);
         filters = o.filters;
+        work = o.work;
       });
       survives = weakens g.survives (λ left p'. subst (λ xs. IsPrefix left d (xs ++ item ∷ []) 0) none (prefix-longer left d (p ++ []) (item ∷ []) 0 p'));
     }

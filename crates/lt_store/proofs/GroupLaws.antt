@@ -6,7 +6,7 @@ use Rattle.lt_terms.specs.Bytes.{Image, block_at}
 use Rattle.lt_terms.specs.Items.{Item}
 use Rattle.lt_device.specs.State.{SameOutside}
 use Rattle.lt_device.specs.State as told
-use Rattle.lt_device.specs.Moments.{MayLeave, Leaves, ShownNow, IsNear, ConfinedTo, UnsyncedIn}
+use Rattle.lt_device.specs.Moments.{MayLeave, Leaves, ShownNow, ShowsSameOutside, IsNear, ConfinedTo, UnsyncedIn}
 use Rattle.lt_device.proofs.Runs.{weakens, both}
 use Rattle.lt_language.specs.Machine.{State}
 use Rattle.lt_format.specs.declared.geometry.Geometry.{Geometry}
@@ -27,7 +27,9 @@ use Rattle.lt_search.specs.Kept.{KeepsFilter}
 use Rattle.lt_store.specs.Committing.{StandsForEither, committed, committed_log}
 use Rattle.lt_store.specs.Open.{IsOpen, StoreView, inner_of}
 use Rattle.lt_store.proofs.SameLaws.{same-names, same-log, same-filters}
-use Rattle.lt_store.proofs.MomentLaws.{open-names, open-same, open-from, sure-agrees}
+use Rattle.lt_work.specs.Work.{reserved_by}
+use Rattle.lt_work.proofs.OutlastLaws.{same-true}
+use Rattle.lt_store.proofs.MomentLaws.{open-names, open-same, open-from, shown-same, sure-agrees}
 use Rattle.lt_store.proofs.FlushLaws.{Fits, each_all}
 use Rattle.lt_image.proofs.PrefixLaws.{prefix-none}
 use Rattle.lt_redo.proofs.OpeningLaws.{items_in-push}
@@ -111,8 +113,8 @@ module _ (v : StoreView) (d : State) (old new : told.State) (o : IsOpen v d old)
   group-survives = weakens group-whole (λ left either. ⊎_elim (prefix-none left d (v.log.pending ++ [])) (prefix-all left d v.log.pending) either)
 
   -- and once the commit answered Ok they are
-  pub group-open : ((left : Image) → MayLeave new left → HasLog v.log.geometry v.log.area v.log.writes (groups_with o.groups v.log.pending) left) → UnsyncedIn (λ _. ⊥) new → IsOpen (committed v) (after_writes d v.log.pending) new
-  group-open each sure =
+  pub group-open : ShowsSameOutside (InSlot v.log.geometry v.log.area v.log.slots) old.shown new.shown → ((left : Image) → MayLeave new left → HasLog v.log.geometry v.log.area v.log.writes (groups_with o.groups v.log.pending) left) → UnsyncedIn (λ _. ⊥) new → IsOpen (committed v) (after_writes d v.log.pending) new
+  group-open shows each sure =
       let g : Geometry = v.named.geometry in
       let area : ℕ = v.named.manifest.header.log_area in
       let now : ShownNow new = run.shows o.rest.image o.rest.shown o.rest.tells in
@@ -124,6 +126,9 @@ module _ (v : StoreView) (d : State) (old new : told.State) (o : IsOpen v d old)
       let extents : ◌≡◌ {A = ℕ → ℕ → List ℕ} (extent_in g near.image) (extent_in g now.image) = λ i x c. sym (behind-slot g area v.log.slots near.image now.image fits.area_small within near.same x c) i in
       let filters_near : AllByRecursion (KeepsFilter g v.kept near.image) (inner_of v.named) = same-filters v.named v.kept o.rest.image near.image base_same o.filters in
       let filters : AllByRecursion (KeepsFilter g v.kept now.image) (inner_of v.named) = subst (λ (f : ℕ → ℕ → List ℕ). AllByRecursion (λ x. slice_index_or v.kept x None ≡ Some (f x 64)) (inner_of v.named)) extents filters_near in
+      let base : Image = o.rest.image in
+      let outside : SameOutside (InSlot g area v.log.slots) base now.image =
+      subst (λ k. SameOutside (InSlot g k v.log.slots) base now.image) fits.area (subst (λ h. SameOutside (InSlot h v.log.area v.log.slots) base now.image) fits.geometry (shown-same (InSlot v.log.geometry v.log.area v.log.slots) old new base shows o.rest.shown now)) in
       open-from (committed v) (after_writes d v.log.pending) new groups now
       (record { slots = groups_with-length o.groups v.log.slots v.log.pending o.slots; memory = o.memory ∙ sym (groups_with-items o.groups v.log.pending) ∙ sym (append-nil (items_in groups)) })
       (record {
@@ -131,6 +136,9 @@ module _ (v : StoreView) (d : State) (old new : told.State) (o : IsOpen v d old)
         stands = grown v d old o fits within near.image now.image groups v.log.pending near.was near.same (log_at now.image groups log) (groups_with-items o.groups v.log.pending);
         log = subst (λ h. HasLog h v.log.area v.log.writes groups now.image) fits.geometry log;
         filters = filters;
+        work = same-true v.named base now.image fits.flags v.work fits.suits
+            (each_all (SameExtent g base now.image) (named v.named.manifest.trie) (λ x c small. behind-slot g area v.log.slots base now.image fits.area_small within outside x c))
+            (each_all (SameExtent g base now.image) (reserved_by v.work) (λ x c small. behind-slot g area v.log.slots base now.image fits.area_small within outside x c)) o.work;
       })
       (sure-agrees (λ n. IsTrue (is_free_block v.named n)) new now sure)
 

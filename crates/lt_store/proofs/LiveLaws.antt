@@ -18,6 +18,7 @@ unflushed D s t result device same up fine = record {
   up = ((λ down. absurd (true≢false (sym still ∙ down))), (λ failed. absurd (fine failed)));
   writes = ap (λ (v : StoreView). v.writes) same;
   regions = λ on. record { geometry = ap (λ (v : StoreView). v.named.geometry) same; extents = ap extents_of same };
+  job = λ on. ap (λ (v : StoreView). v.work.job) same;
   calls = record { size = refl; count = refl; later = omega arith; cause = λ failed. absurd (fine failed) };
 }
   where

@@ -1,5 +1,5 @@
 -- An open store from call to call of its device.
-use Rattle.std.proofs.Common.{◌≡◌, ℕ, refl, sym, subst, Bool, List, ◌++◌, length, Ok}
+use Rattle.std.proofs.Common.{◌≡◌, ℕ, refl, sym, subst, ◌∙◌, Bool, List, ◌++◌, length, Ok, Option, Some}
 use Rattle.std.specs.Prelude.{IsTrue}
 use Rattle.std.specs.List.{AllByRecursion}
 use Rattle.lt_terms.specs.Bytes.{Image}
@@ -16,6 +16,10 @@ use Rattle.lt_format.specs.Snapshot.{Names}
 use Rattle.lt_redo.specs.Slots.{HasLog}
 use Rattle.lt_image.specs.Standing.{Stands, is_free_block}
 use Rattle.lt_search.specs.Kept.{KeepsFilter}
+use Rattle.lt_work.specs.Work.{IsTrueOn, SuitsTrie, reserved_by}
+use Rattle.lt_work.proofs.OutlastLaws.{same-true}
+use Rattle.lt_image.specs.After.{SameExtents}
+use Rattle.lt_device.specs.Moments.{ShowsSameOutside}
 use Rattle.lt_store.specs.Flushing.{Stays}
 use Rattle.lt_store.specs.Open.{IsOpen, StoreView, inner_of}
 use Rattle.lt_store.proofs.SameLaws.{Same, same-trans, same-names, same-stands, same-log, same-filters, same-free}
@@ -28,6 +32,7 @@ pub record IsReady (v : StoreView) (d : State) (groups : List (List Item)) (imag
   pub stands : Stands image d
   pub log : HasLog v.named.geometry v.log.area v.log.writes groups image
   pub filters : AllByRecursion (KeepsFilter v.named.geometry v.kept image) (inner_of v.named)
+  pub work : IsTrueOn v.named image v.work
 
 -- what it has whatever the device holds
 pub record IsSteady (v : StoreView) (groups : List (List Item)) : Type 0 where
@@ -41,7 +46,7 @@ pub open-names : (v : StoreView) (d : State) (s : told.State) (o : IsOpen v d s)
 open-names v d s o = subst (λ n. Names n o.rest.image) o.named o.rest.names
 
 pub open-ready : (v : StoreView) (d : State) (s : told.State) (o : IsOpen v d s) → IsReady v d o.groups o.rest.image
-open-ready v d s o = record { names = open-names v d s o; stands = o.rest.each o.rest.image o.rest.tells; log = o.log; filters = o.filters }
+open-ready v d s o = record { names = open-names v d s o; stands = o.rest.each o.rest.image o.rest.tells; log = o.log; filters = o.filters; work = o.work }
 
 -- each image that a crash may leave is the same but for free blocks
 pub open-agrees : (v : StoreView) (d : State) (s : told.State) (o : IsOpen v d s) → (left : Image) → MayLeave s left → SameOutside (λ n. IsTrue (is_free_block v.named n)) o.rest.image left
@@ -69,6 +74,7 @@ open-from v d s groups now steady ready agree = record {
   slots = steady.slots;
   memory = steady.memory;
   filters = ready.filters;
+  work = ready.work;
 }
 
 -- ---- calls that change nothing that the manifest names
@@ -87,13 +93,23 @@ same-stays v d old new o run =
     let base : Image = o.rest.image in
     weakens run (λ left same. same-stands v.named base left d same (open-names v d old o) (o.rest.each base o.rest.tells))
 
--- what is ready on an image is ready on one that is the same in all that the manifest names
-pub same-ready : (v : StoreView) (d : State) (groups : List (List Item)) (a b : Image) → v.log.area ≡ v.named.manifest.header.log_area → Same v.named a b → IsReady v d groups a → IsReady v d groups b
-same-ready v d groups a b area same ready = record {
+-- what a device shows now agrees with what it showed before
+pub shown-same : (inside : ℕ → Type 0) (old new : told.State) (image : Image) → ShowsSameOutside inside old.shown new.shown → old.shown ≡ Some image → (now : ShownNow new) → SameOutside inside image now.image
+shown-same inside old new image shows was now =
+    let there = shows.each image was in
+    let both : ◌≡◌ {A = Option Image} (Some there.0) (Some now.image) = sym there.1 ∙ now.shown in
+    let is : there.0 ≡ now.image = cc in
+    subst (SameOutside inside image) is there.2
+
+-- what is ready on an image is ready on one that is the same in all that the manifest names and the job reserved
+pub same-ready : (v : StoreView) (d : State) (groups : List (List Item)) (flags : List Bool) (a b : Image) → v.log.area ≡ v.named.manifest.header.log_area → SuitsTrie v.named.geometry.levels v.named.manifest.trie flags v.work → Same v.named a b → SameExtents v.named.geometry a b (reserved_by v.work)
+    → IsReady v d groups a → IsReady v d groups b
+same-ready v d groups flags a b area suits same fresh ready = record {
   names = same-names v.named a b same ready.names;
   stands = same-stands v.named a b d same ready.names ready.stands;
   log = subst (λ k. HasLog v.named.geometry k v.log.writes groups b) (sym area) (same-log v.named a b v.log.writes groups same (subst (λ k. HasLog v.named.geometry k v.log.writes groups a) area ready.log));
   filters = same-filters v.named v.kept a b same ready.filters;
+  work = same-true v.named a b flags v.work suits same.named.kept fresh ready.work;
 }
 
 -- once all is sure there is one image alone
@@ -110,6 +126,7 @@ open-alike v d s up taken o = record {
   slots = o.slots;
   memory = o.memory;
   filters = o.filters;
+  work = o.work;
 }
 
 -- what the image of an open store opens as

@@ -25,6 +25,8 @@ use Rattle.lt_image.proofs.OpenLaws.{opens-is}
 use Rattle.lt_search.specs.Kept.{KeepsFilter}
 use Rattle.lt_search.specs.Kept.{KeepsExactly, inner_tables}
 use Rattle.lt_search.proofs.KeepLaws.{inner-few}
+use Rattle.lt_work.specs.Work.{IsTrueOn}
+use Rattle.lt_work.proofs.OutlastLaws.{rest-true}
 use Rattle.lt_store.specs.Open.{StoreView, IsOpen, blocks_of, inner_of}
 use Rattle.lt_store.specs.Promise.{AtRest}
 use Rattle.lt_store.specs.Reading.{Reads, IsBelowExtents, Assembles, log_at}
@@ -98,6 +100,7 @@ rest-open v s d r reads =
       slots = ap (λ l. l.slots) q.log;
       memory = q.memory ∙ sym (append-nil (items_in q.opened.groups)) ∙ ap (λ xs. items_in q.opened.groups ++ xs) (sym (ap (λ l. l.pending) q.log));
       filters = subst (λ n. AllByRecursion (KeepsFilter n.geometry v.kept r.image) (inner_of n)) (sym q.named_is) q.filters.each;
+      work = subst (IsTrueOn v.named r.image) (sym q.work) (rest-true v.named r.image);
     }
 
 -- ---- where damage lies
@@ -137,6 +140,7 @@ assembled-reads image g n log items all kept v same is log_is has items_is filte
       writes = a.writes ∙ ap (λ (xs : List Item). n.manifest.header.writes + length xs) whole;
       taken_named = a.taken_named;
       filters = subst (λ q. KeepsExactly q v.kept (inner_of n) image) (sym same) (subst (λ f. KeepsExactly g f (inner_of n) image) (sym a.kept_is) filters);
+      work = a.work_is;
     }
 
 -- ---- how many blocks are read

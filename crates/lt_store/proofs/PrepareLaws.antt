@@ -22,6 +22,7 @@ use Rattle.lt_redo.specs.Slots.{HasLog, InLogArea}
 use Rattle.lt_redo.proofs.AreaLaws.{has_log-local}
 use Rattle.lt_image.specs.After.{PlacedIn}
 use Rattle.lt_search.specs.Kept.{KeepsFilter}
+use Rattle.lt_work.specs.Work.{WorkView}
 use Rattle.lt_store.specs.Building.{InExtents, HasTable}
 use Rattle.lt_store.specs.Flushing.{Stays, AreFree, IsPrepared}
 use Rattle.lt_store.specs.Open.{IsOpen, StoreView}
@@ -43,19 +44,19 @@ each-in : (test : ℕ → Bool) (xs : List ℕ) → ((x : ℕ) → is_in x xs �
 each-in test [] each = refl
 each-in test (x ∷ xs) each = and_from (test x) (list_all test xs) (each x (is_in-first x xs)) (each-in test xs (λ y there. each y (is_in-behind y x xs there)))
 
-pub free-below : (n : Named) (numbers : List ℕ) (limit : ℕ) → AreFree n numbers → limit ≡ n.manifest.header.extents → all_below limit numbers ≡ true
-free-below n numbers limit free is = each-in (λ x. nat_lt x limit) numbers (λ x there. lt-ltb x limit (let below = free.below x there in omega arith))
+pub free-below : (n : Named) (work : WorkView) (numbers : List ℕ) (limit : ℕ) → AreFree n work numbers → limit ≡ n.manifest.header.extents → all_below limit numbers ≡ true
+free-below n work numbers limit free is = each-in (λ x. nat_lt x limit) numbers (λ x there. lt-ltb x limit (let below = free.below x there in omega arith))
 
-pub may-flush : (n : Named) (numbers : List ℕ) (header : Header) → AreFree n numbers → all_distinct numbers ≡ true → 1 ≤ length numbers → n.manifest.header.extents ≤ 65536 → header.extents ≡ n.manifest.header.extents
+pub may-flush : (n : Named) (work : WorkView) (numbers : List ℕ) (header : Header) → AreFree n work numbers → all_distinct numbers ≡ true → 1 ≤ length numbers → n.manifest.header.extents ≤ 65536 → header.extents ≡ n.manifest.header.extents
     → header.log_area + n.manifest.header.log_area ≡ 1 → n.manifest.header.writes ≤ header.writes → may_commit n.geometry.levels n.manifest (flush numbers) header ≡ true
 unfolding fits
-may-flush n numbers header free distinct some few extents areas writes =
+may-flush n work numbers header free distinct some few extents areas writes =
     let trie : Trie = n.manifest.trie in
     let new : are_new 65536 trie numbers ≡ true = and_from (all_distinct numbers && all_below 65536 numbers) (list_all (λ x. not (is_in x (named trie))) numbers)
     (and_from (all_distinct numbers) (all_below 65536 numbers) distinct (each-in (λ x. nat_lt x 65536) numbers (λ x there. lt-ltb x 65536 (let below = free.below x there in omega arith))))
     (each-in (λ x. not (is_in x (named trie))) numbers (λ x there. not_from_false _ (free.unnamed x there))) in
     let fit : fits n.geometry.levels trie (flush numbers) ≡ true = and_from (are_new 65536 trie numbers) (nat_le 1 (length numbers)) new (le-leb 1 (length numbers) some) in
-    let below : all_below n.manifest.header.extents numbers ≡ true = free-below n numbers n.manifest.header.extents free refl in
+    let below : all_below n.manifest.header.extents numbers ≡ true = free-below n work numbers n.manifest.header.extents free refl in
     let moves : log_moves (flush numbers) n.manifest.header header ≡ true = and_from (header.log_area + n.manifest.header.log_area == 1) (nat_le n.manifest.header.writes header.writes) (eq-eqb _ 1 areas) (le-leb _ _ writes) in
     and_from (fits n.geometry.levels trie (flush numbers) && all_below n.manifest.header.extents numbers && header.extents == n.manifest.header.extents) (log_moves (flush numbers) n.manifest.header header)
     (and_from (fits n.geometry.levels trie (flush numbers) && all_below n.manifest.header.extents numbers) (header.extents == n.manifest.header.extents)

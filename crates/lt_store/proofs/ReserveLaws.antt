@@ -1,5 +1,5 @@
 -- Extents that a flush reserves, and the facts in memory after it.
-use Rattle.std.proofs.Common.{◌≡◌, ◌≢◌, ℕ, suc, ◌+◌, ◌<◌, ◌≤◌, ◌^◌, refl, sym, ap, subst, ◌∙◌, List, [], ◌∷◌, length, get_or, Bool, true, false, not, ◌&&◌, ◌||◌, arith}
+use Rattle.std.proofs.Common.{◌≡◌, ◌≢◌, ℕ, suc, ◌+◌, ◌<◌, ◌≤◌, ◌^◌, refl, sym, ap, subst, ◌∙◌, List, [], ◌∷◌, ◌++◌, length, get_or, Bool, true, false, not, ◌&&◌, ◌||◌, arith}
 use Rattle.std.specs.Prelude.{◌==◌, nat_le, nat_lt}
 use Rattle.std.proofs.lemmas.Bool.{eqb-true, true≢false, and_from, and_parts, leb-true, ltb-true, lt-ltb}
 use Rattle.lt_terms.specs.Items.{Item, total_cost}
@@ -17,7 +17,11 @@ use Rattle.lt_format.proofs.Numbers.{times, absent-times, times-absent}
 use Rattle.lt_manifest.specs.Promise as opened
 use Rattle.lt_redo.specs.LogState.{LogState, other_area}
 use Rattle.lt_store.specs.Flushing.{AreFree, flushed_log}
-use Rattle.lt_store.specs.Kept.{IsKept}
+use Rattle.lt_work.specs.Work.{SuitsTrie, WorkView, flushed_work, reserved_by}
+use Rattle.lt_work.proofs.OutlastLaws.{alike-suits, flushed-suits}
+use Rattle.lt_format.specs.declared.geometry.Geometry.{Geometry}
+use Rattle.lt_store.proofs.CommitLaws.{geometry-deep}
+use Rattle.lt_store.specs.Kept.{IsKept, in_use}
 use Rattle.lt_alloc.proofs.StackLaws.{is_free-within}
 
 -- ---- numbers in a list
@@ -41,13 +45,26 @@ pairs-distinct (x ∷ xs) apart = and_from (not (is_in x xs)) (all_distinct xs) 
     first true is = let at = is_in-place x xs is in let below = at.1 in absurd (apart 0 (suc at.0) (omega arith) (omega (arith, below)) (sym at.2))
     first false is = ap not is
 
+-- a number of two lists is in the one or in the other
+pub is_in-append : (x : ℕ) (xs ys : List ℕ) → is_in x (xs ++ ys) ≡ (is_in x xs || is_in x ys)
+is_in-append x [] ys = refl
+is_in-append x (z ∷ xs) ys = ap (λ b. (z == x) || b) (is_in-append x xs ys) ∙ assoc (z == x) (is_in x xs) (is_in x ys)
+  where
+    assoc : (a b c : Bool) → (a || (b || c)) ≡ ((a || b) || c)
+    assoc true b c = refl
+    assoc false b c = refl
+
+or-none : (a b : Bool) → (a || b) ≡ false → (a ≡ false) × (b ≡ false)
+or-none true b is = absurd (true≢false is)
+or-none false b is = (refl, is)
+
 -- ---- what is reserved
 
 not_true : (b : Bool) → not b ≡ true → b ≡ false
 not_true true is = absurd (true≢false (sym is))
 not_true false is = refl
 
-module _ (n : Named) (log : LogState) (memory : List Item) (taken now : List Bool) (filters writes count : ℕ) (numbers : List ℕ) (k : IsKept n log memory taken filters writes) (r : Reserves count taken now [] numbers) where
+module _ (n : Named) (log : LogState) (memory : List Item) (taken now : List Bool) (filters writes count : ℕ) (work : WorkView) (numbers : List ℕ) (k : IsKept n log memory taken filters writes work) (r : Reserves count taken now [] numbers) where
   pub reserved-len : length numbers ≡ count
   reserved-len = ap length r.appended ∙ r.len
 
@@ -56,13 +73,17 @@ module _ (n : Named) (log : LogState) (memory : List Item) (taken now : List Boo
       let at = is_in-place x r.numbers (subst (λ xs. is_in x xs ≡ true) r.appended there) in
       subst (λ y. is_free taken y ≡ true) at.2 (r.were_free at.0 0 at.1)
 
-  pub reserved-free : AreFree n numbers
+  unused : (x : ℕ) → is_in x numbers ≡ true → is_in x (in_use n work) ≡ false
+  unused x there =
+      let free = was_free x there in
+      let below : x < n.manifest.header.extents = let b = is_free-within taken x free in let size = k.taken_in_use.len in omega (arith, b, size) in
+      not_true (is_in x (in_use n work)) (sym (k.taken_in_use.free x below) ∙ free)
+
+  pub reserved-free : AreFree n work numbers
   reserved-free = record {
-    below = λ x there. let below = is_free-within taken x (was_free x there) in let size = k.taken_named.len in omega (arith, below, size);
-    unnamed = λ x there.
-        let free = was_free x there in
-        let below : x < n.manifest.header.extents = let b = is_free-within taken x free in let size = k.taken_named.len in omega (arith, b, size) in
-        not_true (is_in x (named n.manifest.trie)) (sym (k.taken_named.free x below) ∙ free);
+    below = λ x there. let below = is_free-within taken x (was_free x there) in let size = k.taken_in_use.len in omega (arith, below, size);
+    unnamed = λ x there. (or-none (is_in x (named n.manifest.trie)) (is_in x (reserved_by work)) (sym (is_in-append x (named n.manifest.trie) (reserved_by work)) ∙ unused x there)).0;
+    unreserved = λ x there. (or-none (is_in x (named n.manifest.trie)) (is_in x (reserved_by work)) (sym (is_in-append x (named n.manifest.trie) (reserved_by work)) ∙ unused x there)).1;
   }
 
   pub reserved-distinct : all_distinct numbers ≡ true
@@ -115,10 +136,10 @@ named-flush trie numbers x rising some = decide (is_in x (named trie)) (is_in x 
 -- ---- the facts in memory
 
 -- after a flush
-pub flushed-kept : (n m : Named) (log : LogState) (memory : List Item) (taken now : List Bool) (filters writes count : ℕ) (numbers : List ℕ) (header : Header) (k : IsKept n log memory taken filters writes) → Reserves count taken now [] numbers → 1 ≤ length numbers
+pub flushed-kept : (n m : Named) (log : LogState) (memory : List Item) (taken now : List Bool) (filters writes count : ℕ) (work : WorkView) (numbers : List ℕ) (header : Header) (k : IsKept n log memory taken filters writes work) → Reserves count taken now [] numbers → 1 ≤ length numbers
     → opened.IsKept m → m.geometry ≡ n.geometry → m.manifest ≡ after_commit n.manifest (flush numbers) header → header.log_area ≡ other_area n.manifest.header.log_area → header.extents ≡ n.manifest.header.extents → header.writes ≡ writes
-    → IsKept m (flushed_log log header) [] now filters writes
-flushed-kept n m log memory taken now filters writes count numbers header k r some stands geometry manifest area extents number =
+    → IsKept m (flushed_log log header) [] now filters writes (flushed_work work)
+flushed-kept n m log memory taken now filters writes count work numbers header k r some stands geometry manifest area extents number =
     let head : m.manifest.header ≡ header = ap (λ (x : Manifest). x.header) manifest in
     let head_area : m.manifest.header.log_area ≡ header.log_area = ap (λ (h : Header). h.log_area) head in
     let head_extents : m.manifest.header.extents ≡ n.manifest.header.extents = ap (λ (h : Header). h.extents) head ∙ extents in
@@ -128,7 +149,7 @@ flushed-kept n m log memory taken now filters writes count numbers header k r so
     let bound = ltb-true _ (2 ^ 64) (and_parts (nat_le (total_cost memory) log_room) (nat_lt (n.manifest.header.writes + length memory) (2 ^ 64)) k.fits).1 in
     let is = k.number in
     omega (arith, bound, is) in
-    let size = k.taken_named.len in
+    let size = k.taken_in_use.len in
     let same = r.same_extents in
     let filled = k.filters_len in
     record {
@@ -144,25 +165,34 @@ flushed-kept n m log memory taken now filters writes count numbers header k r so
       slot = λ none. absurd (omega arith);
       room = omega arith;
       least = omega arith;
-      taken_named = record {
+      suits = subst (λ (g : Geometry). SuitsTrie g.levels m.manifest.trie now (flushed_work work)) (sym geometry)
+          (subst (λ (t : Trie). SuitsTrie n.geometry.levels t now (flushed_work work)) (sym trie)
+          (flushed-suits n.geometry.levels n.manifest.header.extents count n.manifest.trie taken now numbers work (geometry-deep n.geometry k.manifest.geometry) k.manifest.trie some r k.suits));
+      taken_in_use = record {
         len = same ∙ size ∙ sym head_extents;
         free = λ x small.
             let within : x < n.manifest.header.extents = omega (arith, small, head_extents) in
             let there : is_in x (named m.manifest.trie) ≡ (is_in x (named n.manifest.trie) || is_in x numbers) = ap (λ (t : Trie). is_in x (named t)) trie ∙ named-flush n.manifest.trie numbers x k.manifest.trie.rising some in
-            r.others_stay x ∙ ap (λ b. b && not (is_in x r.numbers)) (k.taken_named.free x within) ∙ both (is_in x (named n.manifest.trie)) (is_in x r.numbers)
-            ∙ ap (λ b. not (is_in x (named n.manifest.trie) || b)) (ap (is_in x) (sym r.appended)) ∙ ap not (sym there);
+            r.others_stay x ∙ ap (λ b. b && not (is_in x r.numbers)) (k.taken_in_use.free x within)
+            ∙ ap (λ b. not b && not (is_in x r.numbers)) (is_in-append x (named n.manifest.trie) (reserved_by work))
+            ∙ ap (λ b. not (is_in x (named n.manifest.trie) || is_in x (reserved_by work)) && not b) (ap (is_in x) (sym r.appended))
+            ∙ both (is_in x (named n.manifest.trie)) (is_in x (reserved_by work)) (is_in x numbers)
+            ∙ ap (λ b. not (b || is_in x (reserved_by work))) (sym there) ∙ ap not (sym (is_in-append x (named m.manifest.trie) (reserved_by work)));
       };
       filters_len = filled ∙ sym head_extents;
     }
   where
-    both : (a b : Bool) → (not a && not b) ≡ not (a || b)
-    both true b = refl
-    both false b = refl
+    both : (a b c : Bool) → (not (a || b) && not c) ≡ not ((a || c) || b)
+    both true b c = refl
+    both false true true = refl
+    both false true false = refl
+    both false false true = refl
+    both false false false = refl
 
 -- after a flush that was refused, once the extents were given back
-pub back-kept : (n m : Named) (log log' : LogState) (memory memory' : List Item) (taken now given : List Bool) (filters filters' writes writes' count : ℕ) (numbers : List ℕ) (k : IsKept n log memory taken filters writes) (k' : IsKept m log' memory' taken filters' writes') → Reserves count taken now [] numbers
-    → length given ≡ length now → ((x : ℕ) → x < length now → is_free given x ≡ (is_free now x || is_in x numbers)) → IsKept m log' memory' given filters' writes'
-back-kept n m log log' memory memory' taken now given filters filters' writes writes' count numbers k k' r size back = record {
+pub back-kept : (n m : Named) (log log' : LogState) (memory memory' : List Item) (taken now given : List Bool) (filters filters' writes writes' count : ℕ) (work work' : WorkView) (numbers : List ℕ) (k : IsKept n log memory taken filters writes work) (k' : IsKept m log' memory' taken filters' writes' work') → Reserves count taken now [] numbers
+    → length given ≡ length now → ((x : ℕ) → x < length now → is_free given x ≡ (is_free now x || is_in x numbers)) → IsKept m log' memory' given filters' writes' work'
+back-kept n m log log' memory memory' taken now given filters filters' writes writes' count work work' numbers k k' r size back = record {
   manifest = k'.manifest;
   geometry = k'.geometry;
   area = k'.area;
@@ -175,26 +205,28 @@ back-kept n m log log' memory memory' taken now given filters filters' writes wr
   slot = k'.slot;
   room = k'.room;
   least = k'.least;
-  taken_named = record {
-    len = size ∙ r.same_extents ∙ k'.taken_named.len;
-    free = λ x small. given-free n log memory taken now filters writes count numbers k r given back x (let len = k'.taken_named.len in omega (arith, small, len)) ∙ k'.taken_named.free x small;
+  suits = alike-suits m.geometry.levels m.manifest.trie taken given work' (size ∙ r.same_extents) (λ x small. given-free n log memory taken now filters writes count work numbers k r given back x small) k'.suits;
+  taken_in_use = record {
+    len = size ∙ r.same_extents ∙ k'.taken_in_use.len;
+    free = λ x small. given-free n log memory taken now filters writes count work numbers k r given back x (let len = k'.taken_in_use.len in omega (arith, small, len)) ∙ k'.taken_in_use.free x small;
   };
   filters_len = k'.filters_len;
 }
 
 -- the items in memory are few
-pub memory-few : (n : Named) (log : LogState) (memory : List Item) (taken : List Bool) (filters writes : ℕ) → IsKept n log memory taken filters writes → length memory ≤ 204092
-memory-few n log memory taken filters writes k =
+pub memory-few : (n : Named) (log : LogState) (memory : List Item) (taken : List Bool) (filters writes : ℕ) (work : WorkView) → IsKept n log memory taken filters writes work → length memory ≤ 204092
+memory-few n log memory taken filters writes work k =
     let cost = leb-true (total_cost memory) log_room (and_parts (nat_le (total_cost memory) log_room) (nat_lt (n.manifest.header.writes + length memory) (2 ^ 64)) k.fits).0 in
     let small = count_small memory in
     omega (arith, cost, small)
 
 -- the same facts of equal parts
-pub kept-along : (n : Named) (log log' : LogState) (memory memory' : List Item) (taken taken' : List Bool) (filters filters' writes writes' : ℕ) → log' ≡ log → memory' ≡ memory → taken' ≡ taken → filters' ≡ filters → writes' ≡ writes
-    → IsKept n log memory taken filters writes → IsKept n log' memory' taken' filters' writes'
-kept-along n log log' memory memory' taken taken' filters filters' writes writes' a b c d e k =
-    subst (λ l. IsKept n l memory' taken' filters' writes') (sym a)
-    (subst (λ m. IsKept n log m taken' filters' writes') (sym b)
-    (subst (λ t. IsKept n log memory t filters' writes') (sym c)
-    (subst (λ f. IsKept n log memory taken f writes') (sym d)
-    (subst (λ w. IsKept n log memory taken filters w) (sym e) k))))
+pub kept-along : (n : Named) (log log' : LogState) (memory memory' : List Item) (taken taken' : List Bool) (filters filters' writes writes' : ℕ) (work work' : WorkView) → log' ≡ log → memory' ≡ memory → taken' ≡ taken → filters' ≡ filters → writes' ≡ writes → work' ≡ work
+    → IsKept n log memory taken filters writes work → IsKept n log' memory' taken' filters' writes' work'
+kept-along n log log' memory memory' taken taken' filters filters' writes writes' work work' a b c d e f k =
+    subst (λ l. IsKept n l memory' taken' filters' writes' work') (sym a)
+    (subst (λ m. IsKept n log m taken' filters' writes' work') (sym b)
+    (subst (λ t. IsKept n log memory t filters' writes' work') (sym c)
+    (subst (λ f. IsKept n log memory taken f writes' work') (sym d)
+    (subst (λ w. IsKept n log memory taken filters w work') (sym e)
+    (subst (λ (w : WorkView). IsKept n log memory taken filters writes w) (sym f) k)))))

@@ -82,6 +82,23 @@ same-free m a b names same = record {
   named = not_free-named a b m names.read (λ n taken. sym (same.others n (λ free. absurd (true≢false (sym free ∙ taken)))));
 }
 
+-- extents lie behind the log areas
+pub log-extents : (g : Geometry) (area : ℕ) (a b : Image) (xs : List ℕ) → area < 2 → SameOutside (InLogArea g (other_area area)) a b → SameExtents g a b xs
+log-extents g area a b [] small same = tt
+log-extents g area a b (x ∷ xs) small same = (λ c within. same.others (extent_block g x + c) (λ inside. absurd (behind area x c small inside.1)), log-extents g area a b xs small same)
+  where
+    behind : (area x c : ℕ) → area < 2 → extent_block g x + c < log_gate g (other_area area) g.slots → ⊥
+    behind zero x c small to = omega arith
+    behind (suc zero) x c small to = omega arith
+    behind (suc (suc a)) x c small to = omega arith
+
+-- extents that are not among these stay
+pub other-extents : (g : Geometry) (numbers xs : List ℕ) (a b : Image) → ((x : ℕ) → is_in x numbers ≡ true → is_in x xs ≡ false) → SameOutside (InExtents g numbers) a b → SameExtents g a b xs
+other-extents g numbers xs a b apart same = within_all (SameExtent g a b) xs xs
+    (λ x there c small. same.others (extent_block g x + c) (λ inside.
+    let one : inside.number ≡ x = let from = inside.from in let to = inside.to in omega arith in
+    true≢false (sym there ∙ ap (λ y. is_in y xs) (sym one) ∙ apart inside.number inside.among))) (λ x there. there)
+
 -- blocks of the other log area differ
 pub same-other : (m : Named) (a b : Image) → m.manifest.header.log_area < 2 → SameOutside (InLogArea m.geometry (other_area m.manifest.header.log_area)) a b → Same m a b
 same-other m a b area same = record {

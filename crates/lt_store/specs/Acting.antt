@@ -79,6 +79,10 @@ IsStepOf v durable event outcome page =
     IsStep (extents_of v) (state_of v durable) (command_of event) (reply_of outcome page)
     (after_writes (state_of v durable) (accepted_as outcome (write_of event)))
 
+-- a refusal for want of extents tells of the store alone where no job is in flight, which may have reserved some
+abbrev pub IsOwn : StoreView → Outcome → Type 0
+IsOwn v outcome = (needed free : ℕ) → outcome ≡ outcomes.Taken (taken.Full needed free) → v.work.job ≡ None
+
 -- a command has a reply of its kind, and a commit has none
 abbrev pub IsKind : Option Command → Option Reply → Type 0
 IsKind (Some command) (Some reply) = IsReplyTo command reply

@@ -93,7 +93,7 @@ pub record Commits {T A E : Type 0} (D : Ghosts T) (s t : Store) (result : Resul
   pub calls : OnlyWrites D (IsErr result) old new
 
 -- The store was flushed, or not: each image since stands for what was durable; and while the store is up, it is open
--- for that, with the same regions.
+-- for that, with the same regions and the same job in flight.
 pub record LivesOn {T A : Type 0} (D : Ghosts T) (s t : Store) (result : Result A FlushFault)
     (old new : T) : Type 0 where
   pub stays : KeepsDurable D s old new
@@ -101,6 +101,7 @@ pub record LivesOn {T A : Type 0} (D : Ghosts T) (s t : Store) (result : Result 
   pub up : (t.is_up ≡ false) ↔ IsErrOf result Device
   pub writes : t.writes ≡ s.writes
   pub regions : t.is_up ≡ true → SameRegions (view_of s) (view_of t)
+  pub job : t.is_up ≡ true → t.work.job ≡ s.work.job
   pub calls : OnlyWrites D (IsErrOf result Device) old new
 
 -- The manifest was committed with tables in these extents, or not; the store is down.
@@ -120,4 +121,5 @@ pub record TakesItem {T : Type 0} (D : Ghosts T) (item : Item) (s t : Store) (re
   pub whole : KeepsGroup D s old new
   pub writes : Written D item s t result old new
   pub in_place : WrittenInPlace D item s t result old new
+  pub job : t.is_up ≡ true → t.work.job ≡ s.work.job
   pub up : (t.is_up ≡ false) ↔ IsErrOf result faults.Device

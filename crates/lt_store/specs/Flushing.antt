@@ -20,6 +20,7 @@ use Rattle.lt_image.specs.After.{PlacedIn}
 use Rattle.lt_image.specs.Standing.{Stands}
 use Rattle.lt_search.specs.Kept.{KeepsFilter}
 use Rattle.lt_manifest.specs.Promise as opened
+use Rattle.lt_work.specs.Work.{WorkView, flushed_work, reserved_by}
 use Rattle.lt_store.specs.Kept.{IsKept}
 use Rattle.lt_store.specs.Open.{StoreView}
 
@@ -29,17 +30,18 @@ Stays d old new = Leaves (λ left. Stands left d) old new
 
 -- the facts that a store keeps, with these flags of its extents
 abbrev pub KeptWith : StoreView → List Bool → Type 0
-KeptWith v taken = IsKept v.named v.log v.memory taken (length v.kept) v.writes
+KeptWith v taken = IsKept v.named v.log v.memory taken (length v.kept) v.writes v.work
 
 -- the facts that a store keeps, for some flags of its extents
 pub record SomeKept (v : StoreView) : Type 0 where
   pub taken : List Bool
   pub kept : KeptWith v taken
 
--- these extents are the store's, and none is named
-pub record AreFree (m : Named) (numbers : List ℕ) : Type 0 where
+-- these extents are the store's, and none is named or reserved by the job in flight
+pub record AreFree (m : Named) (work : WorkView) (numbers : List ℕ) : Type 0 where
   pub below : (x : ℕ) → is_in x numbers ≡ true → x < m.manifest.header.extents
   pub unnamed : (x : ℕ) → is_in x numbers ≡ true → is_in x (named m.manifest.trie) ≡ false
+  pub unreserved : (x : ℕ) → is_in x numbers ≡ true → is_in x (reserved_by work) ≡ false
 
 -- the store keeps its facts but for the extents, of which these are free and reserved; nothing is pending
 pub record IsReserved (v : StoreView) (numbers : List ℕ) : Type 0 where
@@ -47,7 +49,7 @@ pub record IsReserved (v : StoreView) (numbers : List ℕ) : Type 0 where
   pub idle : v.log.pending ≡ []
   pub some : 1 ≤ length numbers
   pub distinct : IsTrue (all_distinct numbers)
-  pub free : AreFree v.named numbers
+  pub free : AreFree v.named v.work numbers
 
 -- the header after a flush: the other log area, and all writes
 abbrev pub flush_header : StoreView → Header
@@ -63,7 +65,8 @@ flushed_log log header = idle_log log.geometry (other_area log.area) header.writ
 
 -- the store after a flush
 abbrev pub flushed : StoreView → Named → Header → StoreView
-flushed v n header = record v { named = n; log = flushed_log v.log header; memory = [] }
+flushed v n header =
+    record v { named = n; log = flushed_log v.log header; memory = []; work = flushed_work v.work }
 
 -- the other log area is empty, and the tables of the memory table's newest items stand in these extents, with
 -- their filters kept
@@ -84,7 +87,8 @@ HasTables v numbers device = (left : Image) → MayLeave device left
     → PlacedIn v.named.geometry left numbers (cut (newest v.memory))
 
 -- The store was flushed: the tables of the memory table's newest items stand behind those of the root, and
--- nothing else of the trie changed; the log is the other area's and empty, and so is the memory table.
+-- nothing else of the trie changed; the log is the other area's and empty, and so is the memory table; the job in
+-- flight goes on, and no node is passed over any more.
 pub record IsFlushed (v w : StoreView) (device : told.State) : Type 0 where
   pub numbers : List ℕ
   pub tables : HasTables v numbers device
@@ -92,14 +96,17 @@ pub record IsFlushed (v w : StoreView) (device : told.State) : Type 0 where
   pub log : w.log ≡ flushed_log v.log (flush_header v)
   pub memory : w.memory ≡ []
   pub writes : w.writes ≡ v.writes
+  pub work : w.work ≡ flushed_work v.work
 
--- the store is down, with its extents, its number of writes, its geometry and the room for filters as before
+-- the store is down, with its extents, its number of writes, its geometry, the room for filters and the job in flight as
+-- before
 pub record StaysDown (v w : StoreView) : Type 0 where
   pub down : w.is_up ≡ false
   pub same_extents : w.taken ≡ v.taken
   pub same_writes : w.writes ≡ v.writes
   pub geometry : w.named.geometry ≡ v.named.geometry
   pub room : length w.kept ≡ length v.kept
+  pub same_job : w.work.job ≡ v.work.job
 
 -- the manifest was committed with these tables, and nothing but the filters differs from the store after a flush
 pub record HasCommitted (v w : StoreView) (numbers : List ℕ) : Type 0 where

@@ -11,9 +11,11 @@ use Rattle.lt_redo.specs.LogState.{LogState}
 use Rattle.lt_redo.specs.Slots.{HasLog}
 use Rattle.lt_image.specs.Standing.{after_writes}
 use Rattle.lt_search.specs.Kept.{KeepsFilter, inner_tables}
+use Rattle.lt_work.specs.Work.{IsTrueOn, WorkView}
 use Rattle.lt_store.specs.Promise.{AtRest}
 
--- a store as its calls see it; `kept` has the filter blocks of tables, by extent
+-- a store as its calls see it; `kept` has the filter blocks of tables, by extent, and `work` is what is to be done
+-- between calls
 pub record StoreView : Type 0 where
   pub is_up : Bool
   pub named : Named
@@ -22,13 +24,15 @@ pub record StoreView : Type 0 where
   pub taken : List Bool
   pub kept : List (Option (List ℕ))
   pub writes : ℕ
+  pub work : WorkView
 
 -- the tables of the inner nodes that a manifest names
 abbrev pub inner_of : Named → List ℕ
 inner_of n = inner_tables n.geometry.levels n.manifest.trie
 
 -- The store is open on a device at rest for the state `durable`, which its manifest and the groups of its log
--- make; the memory table has their items and the pending ones, and the filters of the inner tables are kept.
+-- make; the memory table has their items and the pending ones, the filters of the inner tables are kept, and what the
+-- work tells is true of what the device reads as.
 pub record IsOpen (v : StoreView) (durable : State) (device : told.State) : Type 0 where
   pub rest : AtRest durable device
   pub named : rest.named ≡ v.named
@@ -37,6 +41,7 @@ pub record IsOpen (v : StoreView) (durable : State) (device : told.State) : Type
   pub slots : v.log.slots ≡ length groups
   pub memory : v.memory ≡ items_in groups ++ v.log.pending
   pub filters : AllByRecursion (KeepsFilter v.named.geometry v.kept rest.image) (inner_of v.named)
+  pub work : IsTrueOn v.named rest.image v.work
 
 -- the state that the store answers for: the durable one, and the pending writes
 abbrev pub state_of : StoreView → State → State

@@ -13,6 +13,7 @@ use Rattle.lt_image.specs.Versions.{Opened, open_image, log_items, number_of}
 use Rattle.lt_redo.specs.LogState.{LogState, idle_log}
 use Rattle.lt_redo.specs.Opening.{HasItems}
 use Rattle.lt_search.specs.Kept.{KeepsExactly}
+use Rattle.lt_work.specs.Work.{at_rest}
 use Rattle.lt_store.specs.Open.{StoreView, inner_of}
 
 -- the log that a manifest names, with this many groups and nothing pending
@@ -38,7 +39,7 @@ HasItemsOf n slots items image =
     HasItems n.geometry n.manifest.header.log_area n.manifest.header.writes slots items image
 
 -- The store is what the image opens as: its manifest, its log with nothing pending, the items of the log, the
--- extents that are named, and the filters of the inner tables.
+-- extents that are named, and the filters of the inner tables; no work is under way.
 pub record Reads (v : StoreView) (image : Image) : Type 0 where
   pub opened : Opened
   pub opens : open_image image ≡ Ok opened
@@ -48,6 +49,7 @@ pub record Reads (v : StoreView) (image : Image) : Type 0 where
   pub writes : v.writes ≡ number_of opened
   pub taken_named : AreTaken opened.named.manifest.header.extents (named opened.named.manifest.trie) v.taken
   pub filters : KeepsExactly opened.named.geometry v.kept (inner_of opened.named) image
+  pub work : v.work ≡ at_rest
 
 -- the block lies below all extents of some geometry
 pub record IsBelowExtents (block : ℕ) : Type 0 where
@@ -56,7 +58,7 @@ pub record IsBelowExtents (block : ℕ) : Type 0 where
   pub below : block < extent_block geometry 0
 
 -- A store of what was read: it is up, with this manifest and log, the items of the log in memory, the extents
--- that the manifest names taken, and these filters.
+-- that the manifest names taken, and these filters; no work is under way.
 pub record Assembles (n : Named) (log : LogState) (items : List Item)
     (kept : List (Option (List ℕ))) (v : StoreView) : Type 0 where
   pub up : v.is_up ≡ true
@@ -66,3 +68,4 @@ pub record Assembles (n : Named) (log : LogState) (items : List Item)
   pub kept_is : v.kept ≡ kept
   pub writes : v.writes ≡ n.manifest.header.writes + length items
   pub taken_named : AreTaken n.manifest.header.extents (named n.manifest.trie) v.taken
+  pub work_is : v.work ≡ at_rest

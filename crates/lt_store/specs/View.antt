@@ -13,4 +13,5 @@ view_of s = record {
   taken = s.extents;
   kept = s.filters;
   writes = s.writes;
+  work = s.work;
 }

@@ -1,5 +1,5 @@
 -- What becomes of a put or a delete.
-use Rattle.std.specs.Prelude.{◌≡◌, ◌≢◌, ℕ, ◌+◌, ◌≤◌, true, false, Option, IfSome, [], length}
+use Rattle.std.specs.Prelude.{◌≡◌, ◌≢◌, ℕ, ◌+◌, ◌≤◌, true, false, Option, None, IfSome, [], length}
 use Rattle.lt_terms.specs.Causes.{Rose}
 use Rattle.lt_terms.specs.Items.{Item, item_cost, total_cost}
 use Rattle.lt_device.specs.declared.device.Device.{Ghosts}
@@ -16,7 +16,8 @@ use Rattle.lt_store.specs.Taking.{LeavesFull, accepted_by, is_due, readied}
 
 -- The item was put or deleted in the store `v`, which is `w` now; `answered` and `failed` say what the call
 -- answered. At the limit nothing has changed. Else the open group was committed where the item has no room in
--- it; memory is short, and extents are, only where a flush is due then.
+-- it; memory is short, and extents are, only where a flush is due then. A job in flight may have reserved what a flush
+-- lacks.
 pub record Writes {T : Type 0} (D : Ghosts T) (item : Item) (v w : StoreView) (answered : Taken
     → Type 0) (failed : WriteFault → Type 0) (old new : T) : Type 0 where
   pub unchanged : answered Limit → (w ≡ v) × (new ≡ old)
@@ -37,7 +38,7 @@ pub record Writes {T : Type 0} (D : Ghosts T) (item : Item) (v w : StoreView) (a
   -- where the store is open on the device
   pub refused : failed NoMemory → (durable : State) → IsOpen v durable (D.state old)
       → Goes v [] w durable (D.state old) (D.state new)
-  pub full_images : (needed free : ℕ) → answered (Full needed free) → (durable : State)
+  pub full_images : (needed free : ℕ) → answered (Full needed free) → v.work.job ≡ None → (durable : State)
       → IsOpen v durable (D.state old) → LeavesFull v (D.state new) needed free
 
 -- What holds of a call as long as no write moves a table down the trie; `written` is the item that it writes, if

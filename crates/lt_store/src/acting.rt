@@ -8,7 +8,7 @@ ghost use Rattle.lt_device.specs.Reads.{CountsAtMost};
 ghost use Rattle.lt_language.specs.Commands as commands;
 ghost use Rattle.lt_language.specs.Machine.{most_writes};
 ghost use Rattle.lt_store.specs.Acting.{IsStopped, KeepsOut, MayAct, TellsSeen, accepted_as, command_of};
-ghost use Rattle.lt_store.specs.Acting.{most_reads_by, only_asks, reply_of, write_of, IsKind, IsStepOf};
+ghost use Rattle.lt_store.specs.Acting.{most_reads_by, only_asks, reply_of, write_of, IsKind, IsOwn, IsStepOf};
 ghost use Rattle.lt_store.specs.Committing.{committed};
 ghost use Rattle.lt_store.specs.Counts.{Tells};
 ghost use Rattle.lt_store.specs.Getting.{KeepsBound, seen_of};
@@ -64,7 +64,8 @@ impl Store {
 
         // The command and its outcome are a step of the map machine.
         ensures step { IfOk result (λ outcome. WhereOpen D.Device self.old device.old
-            (λ durable. IsStepOf (view_of self.old) durable event.entry outcome out.new)) }
+            (λ durable. IsOwn (view_of self.old) outcome
+            → IsStepOf (view_of self.old) durable event.entry outcome out.new)) }
 
         // Whatever the device tells, the reply is of its command's kind.
         ensures kind { IfOk result (λ outcome.
@@ -119,6 +120,7 @@ impl Store {
             × (only_asks event.entry ≡ false)) }
         ensures regions { self.new.is_up ≡ true
             → SameRegions (view_of self.old) (view_of self.new) }
+        ensures job { self.new.is_up ≡ true → self.new.work.job ≡ self.old.work.job }
         ensures size { D.blocks device.new ≡ D.blocks device.old }
         ensures count { write_of event.entry ≡ None
             → CountsAtMost (most_reads_by (view_of self.old) event.entry) (D.reads device.old)

@@ -7,8 +7,8 @@ ghost use Rattle.lt_store.specs.View.{view_of};
 use crate::store::Store;
 use lt_device::Device;
 
-/// How many writes were accepted, how many blocks the device has read so far, and how many tables and
-/// free extents there are.
+/// How many writes were accepted, how many blocks the device has read so far, how many tables there are,
+/// and how many extents the manifest does not name.
 #[derive(Clone, Copy, Debug, PartialEq, Eq)]
 pub struct Stat {
     pub writes: u64,
@@ -28,7 +28,7 @@ impl Store {
             writes: self.writes,
             reads: device.reads(),
             tables: self.manifest.trie().tables(),
-            free: self.extents.free(),
+            free: self.extents.free() + self.work.reserved_numbers().len() as u32,
         }
     }
 }

@@ -155,6 +155,7 @@ impl Store {
         self.manifest.commit(alloc, device, &change, &next)?;
         self.log.turn(self.manifest.header().writes);
         self.memory.clear();
+        self.work.note_flush();
         Ok(())
     }
 }

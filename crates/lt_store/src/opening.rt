@@ -18,6 +18,7 @@ ghost use Rattle.lt_store.specs.Promise.{StopsOpening, AtRest};
 ghost use Rattle.lt_store.specs.Open.{IsOpen, blocks_in, blocks_of, extents_of, inner_of};
 ghost use Rattle.lt_store.specs.Reading.{Reads, IsBelowExtents, Assembles, IsLogOf, HasItemsOf, groups_of};
 ghost use Rattle.lt_store.specs.View.{view_of};
+ghost use Rattle.lt_work.specs.Work.{at_rest};
 
 use super::store::Store;
 use lt_alloc::Extents;
@@ -29,6 +30,7 @@ use lt_mem::MemTable;
 use lt_page::{NoMemory, Page};
 use lt_redo::Log;
 use lt_search::InnerFilters;
+use lt_work::Work;
 use std::alloc::Global;
 
 impl Store {
@@ -40,6 +42,7 @@ impl Store {
     pub fn open<D: Device>(alloc: Global, device: &mut D) -> Result<Store, OpenFault>
         ensures up { IfOk result (λ store. store.is_up ≡ true) }
         ensures pending { IfOk result (λ store. store.log.pending ≡ []) }
+        ensures rest { IfOk result (λ store. (view_of store).work ≡ at_rest) }
         ensures room { IfOk result (λ store. blocks_of (view_of store) ≤ D.blocks device.new) }
 
         // On a device that tells its blocks the store is what they open as.
@@ -92,6 +95,7 @@ impl Store {
             memory,
             extents,
             filters,
+            work: Work::new(alloc)?,
             column,
             page,
             writes,

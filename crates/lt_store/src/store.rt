@@ -11,6 +11,7 @@ use lt_mem::MemTable;
 use lt_page::Page;
 use lt_redo::Log;
 use lt_search::InnerFilters;
+use lt_work::Work;
 
 /// A store that is open on a device. Its writes since the last flush lie in the log and in the memory
 /// table; those of the open group are not durable yet.
@@ -21,6 +22,7 @@ pub struct Store {
     pub(super) memory: MemTable,
     pub(super) extents: Extents,
     pub(super) filters: InnerFilters,
+    pub(super) work: Work,
     /// What a get reads of a group, and of a bucket.
     pub(super) column: Page,
     pub(super) page: Page,
@@ -29,7 +31,7 @@ pub struct Store {
     /// What was short where a flush of the memory table as it stands was refused.
     pub(super) refused: Option<Short>,
     pub(super) is_up: bool,
-    ghost kept: { is_up ≡ true → IsKept manifest log memory extents (length filters) writes },
+    ghost kept: { is_up ≡ true → IsKept manifest log memory extents (length filters) writes work },
     ghost refused_is: { is_up ≡ true → (short : Short) → refused ≡ Some short → IsShort memory extents short },
 }
 

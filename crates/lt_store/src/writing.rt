@@ -165,7 +165,7 @@ impl Store {
         ensures slot { result ≡ Ok None → self.new.log.slots < self.new.manifest.geometry.slots }
         ensures full { (short : Short) → result ≡ Ok (Some short)
             → IsFull (view_of self.new) short.needed short.free }
-        ensures full_images { (short : Short) → result ≡ Ok (Some short)
+        ensures full_images { (short : Short) → result ≡ Ok (Some short) → self.old.work.job ≡ None
             → WhereOpen D.Device self.old device.old
             (λ _. LeavesFull (view_of self.old) (D.state device.new) short.needed short.free) }
     {

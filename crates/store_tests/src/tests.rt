@@ -9,12 +9,19 @@ use lt_item::{ItemView, Kind, parts_of};
 use lt_page::Page;
 use lt_store::{EventView, Outcome, Stat, Store, Taken, init};
 use std::alloc::Global;
+use std::fmt::Debug;
+use std::process::Abort;
 use std::test::Fail;
 
 /// A store of 1 extent, 2 levels and 1 slot has so many blocks, and its extent begins at block 872.
 const BLOCKS: u64 = 937;
 
 const EXTENT: u64 = 872;
+
+/// Fails the test unless both are the same.
+fn same<T: PartialEq + Debug + Drop>(rt: &impl Abort, got: T, want: T) {
+    assert_eq!(rt; got, want);
+}
 
 /// Opens the store, puts a value and commits. Answers what became of the put, or `None` where a call
 /// failed.
@@ -84,25 +91,25 @@ fn both<D: Device>(alloc: Global, device: &mut D) -> Result<(Option<u8>, Option<
 fn a_put_is_refused_once_no_extent_is_free(rt: HostRuntime) -> Result<(), Fail> {
     let alloc = rt.alloc();
     let mut device = Steady::new(alloc, BLOCKS)?;
-    assert_eq!(rt; init(alloc, &mut device, 1, 2, 1), Ok(()));
+    same(&rt, init(alloc, &mut device, 1, 2, 1), Ok(()));
     let full = Taken::Full { needed: 1, free: 0 };
     for (key, value, taken) in [
         (b"a", b"1", Taken::Ok),
         (b"b", b"2", Taken::Ok),
         (b"c", b"3", full),
     ] {
-        assert_eq!(rt; put(alloc, &mut device, key, value), Some(taken));
+        same(&rt, put(alloc, &mut device, key, value), Some(taken));
     }
 
     // In one store too, a second time.
     let refused = Outcome::Taken(full);
     let answers = put_c_twice(alloc, &mut device);
-    assert_eq!(rt; answers, Some([refused, refused]));
+    same(&rt, answers, Some([refused, refused]));
 
     // The table has a and the log b.
-    assert_eq!(rt; get(alloc, &mut device, b"a"), Ok((Some(b'1'), 1)));
-    assert_eq!(rt; get(alloc, &mut device, b"b"), Ok((Some(b'2'), 0)));
-    assert_eq!(rt; get(alloc, &mut device, b"c"), Ok((None, 0)));
+    same(&rt, get(alloc, &mut device, b"a"), Ok((Some(b'1'), 1)));
+    same(&rt, get(alloc, &mut device, b"b"), Ok((Some(b'2'), 0)));
+    same(&rt, get(alloc, &mut device, b"c"), Ok((None, 0)));
     Ok(())
 }
 
@@ -126,21 +133,21 @@ fn put_c_twice<D: Device>(alloc: Global, device: &mut D) -> Option<[Outcome; 2]>
 fn a_crash_in_a_flush_keeps_what_was_committed(rt: HostRuntime) -> Result<(), Fail> {
     let alloc = rt.alloc();
     let mut first = MemDevice::new(alloc, BLOCKS, 999, Vec::new(alloc), None)?;
-    assert_eq!(rt; init(alloc, &mut first, 1, 2, 1), Ok(()));
-    assert_eq!(rt; put(alloc, &mut first, b"a", b"1"), Some(Taken::Ok));
+    same(&rt, init(alloc, &mut first, 1, 2, 1), Ok(()));
+    same(&rt, put(alloc, &mut first, b"a", b"1"), Some(Taken::Ok));
 
     // To open the store, to flush a and to commit b takes 144 calls.
     for stop in 0..145 {
         let mut device = first.crash(alloc, &[], 999, Vec::new(alloc), Some(stop))?;
         let taken = put(alloc, &mut device, b"b", b"2");
-        assert_eq!(rt; taken, if stop < 144 { None } else { Some(Taken::Ok) });
+        same(&rt, taken, if stop < 144 { None } else { Some(Taken::Ok) });
         for pick in [Pick::Stable, Pick::Written, Pick::Filled(1)] {
             let picks = vec![in alloc; pick; 200]?;
             let mut left = device.crash(alloc, &picks, 0, Vec::new(alloc), None)?;
             let values = both(alloc, &mut left);
             let whole = values == Ok((Some(b'1'), Some(b'2')));
             let without = taken.is_none() && values == Ok((Some(b'1'), None));
-            assert!(rt; whole || without, "stopped at {stop}, {pick:?}");
+            same(&rt, (stop, pick, whole || without), (stop, pick, true));
         }
     }
     Ok(())
@@ -226,7 +233,7 @@ fn flush_twice<D: Device>(alloc: Global, device: &mut D) -> Option<(Vec<Outcome>
 fn events_come_to_their_outcomes(rt: HostRuntime) -> Result<(), Fail> {
     let alloc = rt.alloc();
     let mut device = Steady::new(alloc, BLOCKS + 65)?;
-    assert_eq!(rt; init(alloc, &mut device, 2, 2, 1), Ok(()));
+    same(&rt, init(alloc, &mut device, 2, 2, 1), Ok(()));
     let answer = flush_twice(alloc, &mut device).ok_or("each event is acted")?;
     let taken = Outcome::Taken(Taken::Ok);
     let stat = Stat {
@@ -246,8 +253,8 @@ fn events_come_to_their_outcomes(rt: HostRuntime) -> Result<(), Fail> {
         Outcome::Missing,
         Outcome::Stat(stat),
     ];
-    assert_eq!(rt; answer.0.as_slice(), outcomes.as_slice());
-    assert_eq!(rt; answer.1, b'2');
+    same(&rt, answer.0.as_slice(), outcomes.as_slice());
+    same(&rt, answer.1, b'2');
     Ok(())
 }
 
@@ -266,16 +273,17 @@ fn fill<D: Device>(alloc: Global, device: &mut D, block: u64, byte: u8) -> Optio
 fn a_get_tells_the_bucket_that_is_damaged(rt: HostRuntime) -> Result<(), Fail> {
     let alloc = rt.alloc();
     let mut device = Steady::new(alloc, BLOCKS)?;
-    assert_eq!(rt; init(alloc, &mut device, 1, 2, 1), Ok(()));
-    assert_eq!(rt; put(alloc, &mut device, b"a", b"1"), Some(Taken::Ok));
-    assert_eq!(rt; put(alloc, &mut device, b"b", b"2"), Some(Taken::Ok));
+    same(&rt, init(alloc, &mut device, 1, 2, 1), Ok(()));
+    same(&rt, put(alloc, &mut device, b"a", b"1"), Some(Taken::Ok));
+    same(&rt, put(alloc, &mut device, b"b", b"2"), Some(Taken::Ok));
 
     let block = EXTENT + u64::from(parts_of(b"a").column);
-    assert_eq!(rt; fill(alloc, &mut device, block, 0xff), Some(()));
-    assert_eq!(rt;
+    same(&rt, fill(alloc, &mut device, block, 0xff), Some(()));
+    same(
+        &rt,
         get(alloc, &mut device, b"a"),
-        Err(LookFault::Damaged(block))
+        Err(LookFault::Damaged(block)),
     );
-    assert_eq!(rt; get(alloc, &mut device, b"b"), Ok((Some(b'2'), 0)));
+    same(&rt, get(alloc, &mut device, b"b"), Ok((Some(b'2'), 0)));
     Ok(())
 }

@@ -31,13 +31,13 @@ returns-in_err-put-in-Put-clause-broken g c = OnErr-always c.from_residual.resul
     whole-survives (view_of c.args.self.now) durable (g.D.Device.state c.args.device.now) (g.D.Device.state c.put.new.device) (c.put.ensures.all.whole durable opened))
 
 pub returns-in_ok-put-in-Put-clause-step : goal.returns-in_ok-put-in-Put-clause-step
-returns-in_ok-put-in-Put-clause-step g c = λ durable opened.
+returns-in_ok-put-in-Put-clause-step g c = λ durable opened own.
     let s = c.args.self.now in
     let answer = c.in_ok-put-in-Put in
     let number = all-writes (view_of s) durable (g.D.Device.state c.args.device.now) opened (length s.filters) (s.kept c.requires.up) c.in-Put.key.now in
     rw c.in-Put.is
     (put-step s.manifest.manifest.header.extents s.writes (state_of (view_of s) durable) answer.field-0 number (limits answer.field-0 _ answer.ensures.limit)
-    (λ needed free is. ((answer.ensures.full needed free (ap Ok is)).short, (answer.ensures.all.writes.full_images needed free (ap Ok is) durable opened).1)) c.in-Put.key.now c.in-Put.value.now c.args.out.now)
+    (λ needed free is. ((answer.ensures.full needed free (ap Ok is)).short, (answer.ensures.all.writes.full_images needed free (ap Ok is) (own needed free (ap outcomes.Taken is)) durable opened).1)) c.in-Put.key.now c.in-Put.value.now c.args.out.now)
 
 pub returns-in_ok-put-in-Put-clause-kind : goal.returns-in_ok-put-in-Put-clause-kind
 returns-in_ok-put-in-Put-clause-kind g c = rw c.in-Put.is (write-kind (commands.put c.in-Put.key.now c.in-Put.value.now) c.in_ok-put-in-Put.field-0 c.args.out.now (λ reply is. is))
@@ -53,13 +53,13 @@ returns-in_err-delete-in-Delete-clause-broken g c = OnErr-always c.from_residual
     whole-survives (view_of c.args.self.now) durable (g.D.Device.state c.args.device.now) (g.D.Device.state c.delete.new.device) (c.delete.ensures.all.whole durable opened))
 
 pub returns-in_ok-delete-in-Delete-clause-step : goal.returns-in_ok-delete-in-Delete-clause-step
-returns-in_ok-delete-in-Delete-clause-step g c = λ durable opened.
+returns-in_ok-delete-in-Delete-clause-step g c = λ durable opened own.
     let s = c.args.self.now in
     let answer = c.in_ok-delete-in-Delete in
     let number = all-writes (view_of s) durable (g.D.Device.state c.args.device.now) opened (length s.filters) (s.kept c.requires.up) c.in-Delete.key.now in
     rw c.in-Delete.is
     (delete-step s.manifest.manifest.header.extents s.writes (state_of (view_of s) durable) answer.field-0 number (limits answer.field-0 _ answer.ensures.limit)
-    (λ needed free is. ((answer.ensures.full needed free (ap Ok is)).short, (answer.ensures.all.writes.full_images needed free (ap Ok is) durable opened).1)) c.in-Delete.key.now c.args.out.now)
+    (λ needed free is. ((answer.ensures.full needed free (ap Ok is)).short, (answer.ensures.all.writes.full_images needed free (ap Ok is) (own needed free (ap outcomes.Taken is)) durable opened).1)) c.in-Delete.key.now c.args.out.now)
 
 pub returns-in_ok-delete-in-Delete-clause-kind : goal.returns-in_ok-delete-in-Delete-clause-kind
 returns-in_ok-delete-in-Delete-clause-kind g c = rw c.in-Delete.is (write-kind (commands.delete c.in-Delete.key.now) c.in_ok-delete-in-Delete.field-0 c.args.out.now (λ reply is. is))
@@ -119,7 +119,7 @@ returns-in-None-clause-bound g c = λ key is durable opened. get-bound g.D.Devic
 -- ---- a stat
 
 pub returns-in-Stat-clause-step : goal.returns-in-Stat-clause-step
-returns-in-Stat-clause-step g c = λ durable opened.
+returns-in-Stat-clause-step g c = λ durable opened own.
     let s = c.args.self.now in
     let number = all-writes (view_of s) durable (g.D.Device.state c.args.device.now) opened (length s.filters) (s.kept c.requires.up) [] in
     rw c.in-Stat.is (stat-step s.manifest.manifest.header.extents (state_of (view_of s) durable) c.stat.result c.args.out.now (ap (λ (t : Stat). t.writes) c.stat.ensures.told.is ∙ sym number) c.stat.ensures.within)

@@ -33,8 +33,8 @@ commit-requires-clause-may g c =
     let area : c.header-header.result.log_area ≡ v.named.manifest.header.log_area = ap (λ (h : Header). h.log_area) header in
     let small : v.named.manifest.header.log_area < 2 = kept.manifest.log_area in
     let number = kept.number in
-    may-flush v.named c.of.result (record { log_area = 1 - c.header-header.result.log_area; extents = c.header-header.result.extents; writes = c.args.self.now.writes })
-    (subst (AreFree v.named) (sym numbers) c.requires.reserved.free) (subst (λ xs. all_distinct xs ≡ true) (sym numbers) c.requires.reserved.distinct) (subst (λ xs. 1 ≤ length xs) (sym numbers) c.requires.reserved.some) kept.manifest.most (ap (λ (h : Header). h.extents) header)
+    may-flush v.named v.work c.of.result (record { log_area = 1 - c.header-header.result.log_area; extents = c.header-header.result.extents; writes = c.args.self.now.writes })
+    (subst (AreFree v.named v.work) (sym numbers) c.requires.reserved.free) (subst (λ xs. all_distinct xs ≡ true) (sym numbers) c.requires.reserved.distinct) (subst (λ xs. 1 ≤ length xs) (sym numbers) c.requires.reserved.some) kept.manifest.most (ap (λ (h : Header). h.extents) header)
     (omega (arith, area, small)) (omega (arith, number))
 
 pub returns-in_err-commit-clause-stays : goal.returns-in_err-commit-clause-stays
@@ -77,7 +77,7 @@ returns-clause-opened g c = λ d o p.
     let number : c.header.result.writes ≡ c.args.self.now.writes = ap (λ (h : Header). h.writes) (c.header.ensures.header ∙ ap (λ (m : Manifest). m.header) c.in_ok-commit.ensures.changed) in
     let turned = c.turn.ensures ∙ ap (λ (w : ℕ). record v.log { area = other_area v.log.area; writes = w; slots = 0; cleared = false }) number in
     subst (λ (w : StoreView). IsOpen w d (g.D.Device.state c.commit.new.device))
-    (sym (flushed-view v c.commit.new.self header c.turn.new.self c.clear.new.self c.requires.reserved.idle turned c.clear.ensures))
+    (sym (flushed-view v c.commit.new.self header c.turn.new.self c.clear.new.self c.note_flush.new.self c.requires.reserved.idle turned c.clear.ensures c.note_flush.ensures))
     (flushed-open v d (g.D.Device.state c.args.device.now) (g.D.Device.state c.commit.new.device) o fits c.of.result header c.requires.reserved.idle other kept.number ready.clear ready.placed
     c.commit.new.self c.commit.ensures.geometry c.in_ok-commit.ensures.changed run (c.in_ok-commit.ensures.committed o.rest.image o.rest.shown (each_names v d (g.D.Device.state c.args.device.now) o)) c.in_ok-commit.ensures.sure ready.filters)
 

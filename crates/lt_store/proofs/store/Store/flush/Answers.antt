@@ -27,14 +27,14 @@ pub tables_of-requires-clause-few : goal.tables_of-requires-clause-few
 tables_of-requires-clause-few g c =
     let is : length c.deref.result.now ≡ length (newest c.args.self.now.memory) = ap length (c.deref.ensures.value ∙ c.in_ok-items.ensures) in
     let few = newest-few c.args.self.now.memory in
-    let memory = memory-few _ _ c.args.self.now.memory _ _ _ (c.args.self.now.kept c.requires.up) in
+    let memory = memory-few _ _ c.args.self.now.memory _ _ _ _ (c.args.self.now.kept c.requires.up) in
     omega (arith, is, few, memory)
 
 pub overflow_cast-len : goal.overflow_cast-len
 overflow_cast-len g c =
     let is : length c.deref.result.now ≡ length (newest c.args.self.now.memory) = ap length (c.deref.ensures.value ∙ c.in_ok-items.ensures) in
     let few = newest-few c.args.self.now.memory in
-    let memory = memory-few _ _ c.args.self.now.memory _ _ _ (c.args.self.now.kept c.requires.up) in
+    let memory = memory-few _ _ c.args.self.now.memory _ _ _ _ (c.args.self.now.kept c.requires.up) in
     let fewer = c.in_ok-tables.ensures.fewer in
     let len = c.len-2.ensures in
     let size = c.in_ok-tables.tables.ok.0 in
@@ -45,7 +45,7 @@ flush_into-requires-clause-reserved g c =
     let me = c.args.self.now in
     let kept = me.kept c.requires.up in
     let r = subst (λ xs. Reserves c.len-2.result me.extents c.take.new.self xs c.take.new.into.items) c.in_ok-numbers.ensures.items c.in_default-take.ensures.ok in
-    let count : length c.take.new.into.items ≡ c.len-2.result = reserved-len me.manifest me.log me.memory me.extents c.take.new.self _ _ c.len-2.result c.take.new.into.items kept r in
+    let count : length c.take.new.into.items ≡ c.len-2.result = reserved-len me.manifest me.log me.memory me.extents c.take.new.self _ _ c.len-2.result me.work c.take.new.into.items kept r in
     let is : length c.deref.result.now ≡ length (newest me.memory) = ap length (c.deref.ensures.value ∙ c.in_ok-items.ensures) in
     let any = newest-some me.memory c.requires.some in
     let tables : 0 < length c.in_ok-tables.tables.items = c.in_ok-tables.ensures.some (omega (arith, is, any)) in
@@ -56,8 +56,8 @@ flush_into-requires-clause-reserved g c =
       kept = record { taken = me.extents; kept = kept };
       idle = c.requires.idle;
       some = omega (arith, count, tables, same, len, size);
-      distinct = subst (λ xs. all_distinct xs ≡ true) (sym c.deref-3.ensures.value) (reserved-distinct me.manifest me.log me.memory me.extents c.take.new.self _ _ c.len-2.result c.take.new.into.items kept r);
-      free = subst (AreFree me.manifest) (sym c.deref-3.ensures.value) (reserved-free me.manifest me.log me.memory me.extents c.take.new.self _ _ c.len-2.result c.take.new.into.items kept r);
+      distinct = subst (λ xs. all_distinct xs ≡ true) (sym c.deref-3.ensures.value) (reserved-distinct me.manifest me.log me.memory me.extents c.take.new.self _ _ c.len-2.result me.work c.take.new.into.items kept r);
+      free = subst (AreFree me.manifest me.work) (sym c.deref-3.ensures.value) (reserved-free me.manifest me.log me.memory me.extents c.take.new.self _ _ c.len-2.result me.work c.take.new.into.items kept r);
     }
 
 pub give_back-requires-clause-distinct : goal.give_back-requires-clause-distinct
@@ -65,14 +65,14 @@ give_back-requires-clause-distinct g c =
     let me = c.args.self.now in
     let kept = me.kept c.requires.up in
     let r = subst (λ xs. Reserves c.len-2.result me.extents c.take.new.self xs c.take.new.into.items) c.in_ok-numbers.ensures.items c.in_default-take.ensures.ok in
-    subst (λ xs. all_distinct xs ≡ true) (sym c.deref-in-Err-NoMemory.ensures.value) (reserved-distinct me.manifest me.log me.memory me.extents c.take.new.self _ _ c.len-2.result c.take.new.into.items kept r)
+    subst (λ xs. all_distinct xs ≡ true) (sym c.deref-in-Err-NoMemory.ensures.value) (reserved-distinct me.manifest me.log me.memory me.extents c.take.new.self _ _ c.len-2.result me.work c.take.new.into.items kept r)
 
 pub give_back-requires-clause-below : goal.give_back-requires-clause-below
 give_back-requires-clause-below g c = λ x there.
     let me = c.args.self.now in
     let kept = me.kept c.requires.up in
     let r = subst (λ xs. Reserves c.len-2.result me.extents c.take.new.self xs c.take.new.into.items) c.in_ok-numbers.ensures.items c.in_default-take.ensures.ok in
-    let below = reserved-below me.manifest me.log me.memory me.extents c.take.new.self _ _ c.len-2.result c.take.new.into.items kept r x (subst (λ xs. is_in x xs ≡ true) c.deref-in-Err-NoMemory.ensures.value there) in
+    let below = reserved-below me.manifest me.log me.memory me.extents c.take.new.self _ _ c.len-2.result me.work c.take.new.into.items kept r x (subst (λ xs. is_in x xs ≡ true) c.deref-in-Err-NoMemory.ensures.value there) in
     let same : length c.flush_into.new.self.extents ≡ length c.take.new.self = ap length c.flush_into.ensures.installs.stays_down.same_extents in
     omega (arith, below, same)
 
@@ -86,7 +86,7 @@ invariant_of-self-in-Ok g c =
     let r = subst (λ xs. Reserves c.len-2.result me.extents c.take.new.self xs c.take.new.into.items) c.in_ok-numbers.ensures.items c.in_default-take.ensures.ok in
     let new = c.flush_into.new.self in
     let v : StoreView = view_of me in
-    let count : length c.take.new.into.items ≡ c.len-2.result = reserved-len me.manifest me.log me.memory me.extents c.take.new.self _ _ c.len-2.result c.take.new.into.items kept r in
+    let count : length c.take.new.into.items ≡ c.len-2.result = reserved-len me.manifest me.log me.memory me.extents c.take.new.self _ _ c.len-2.result me.work c.take.new.into.items kept r in
     let is : length c.deref.result.now ≡ length (newest me.memory) = ap length (c.deref.ensures.value ∙ c.in_ok-items.ensures) in
     let any = newest-some me.memory c.requires.some in
     let tables : 0 < length c.in_ok-tables.tables.items = c.in_ok-tables.ensures.some (omega (arith, is, any)) in
@@ -97,9 +97,9 @@ invariant_of-self-in-Ok g c =
     let header : Header = flush_header v in
     let flushed_is = c.in-Ok.ensures.installs.committed.is in
     let manifest = c.in-Ok.ensures.installs.committed.manifest ∙ ap (λ xs. after_commit me.manifest.manifest (flush xs) header) c.deref-3.ensures.value in
-    let k = flushed-kept me.manifest new.manifest me.log me.memory me.extents c.take.new.self _ _ c.len-2.result c.take.new.into.items header kept r some c.in-Ok.ensures.installs.committed.stands c.in-Ok.ensures.installs.stays_down.geometry manifest refl refl refl in
+    let k = flushed-kept me.manifest new.manifest me.log me.memory me.extents c.take.new.self _ _ c.len-2.result me.work c.take.new.into.items header kept r some c.in-Ok.ensures.installs.committed.stands c.in-Ok.ensures.installs.stays_down.geometry manifest refl refl refl in
     record {
-      kept = λ up. kept-along new.manifest (flushed_log me.log header) new.log [] new.memory c.take.new.self new.extents _ _ _ _ (ap (λ (w : StoreView). w.log) flushed_is) (ap (λ (w : StoreView). w.memory) flushed_is) c.in-Ok.ensures.installs.stays_down.same_extents filled c.in-Ok.ensures.installs.stays_down.same_writes k;
+      kept = λ up. kept-along new.manifest (flushed_log me.log header) new.log [] new.memory c.take.new.self new.extents _ _ _ _ _ _ (ap (λ (w : StoreView). w.log) flushed_is) (ap (λ (w : StoreView). w.memory) flushed_is) c.in-Ok.ensures.installs.stays_down.same_extents filled c.in-Ok.ensures.installs.stays_down.same_writes (ap (λ (w : StoreView). w.work) flushed_is) k;
       refused_is = λ up short is. absurd (c.in_default.not-Some short (sym c.flush_into.ensures.installs.refused ∙ is));
     }
 
@@ -115,7 +115,7 @@ invariant_of-self-in-Err-NoMemory g c =
     let size : length c.give_back.new.extents ≡ length c.take.new.self = c.give_back.ensures.extents ∙ ap length taken in
     record {
       kept = λ up.
-          back-kept me.manifest new.manifest me.log new.log me.memory new.memory me.extents c.take.new.self c.give_back.new.extents _ (length new.filters) me.writes new.writes c.len-2.result c.take.new.into.items kept k' r size
+          back-kept me.manifest new.manifest me.log new.log me.memory new.memory me.extents c.take.new.self c.give_back.new.extents _ (length new.filters) me.writes new.writes c.len-2.result me.work new.work c.take.new.into.items kept k' r size
           (λ x small. subst (λ ns. is_free c.give_back.new.extents x ≡ (is_free c.take.new.self x || is_in x ns)) numbers (subst (λ e. is_free c.give_back.new.extents x ≡ (is_free e x || is_in x c.deref-in-Err-NoMemory.result.now)) taken (c.give_back.ensures.free x (subst (λ e. x < length e) (sym taken) small))));
       refused_is = λ up short is. absurd (c.in_default.not-Some short (sym c.flush_into.ensures.installs.refused ∙ is));
     }
@@ -130,6 +130,7 @@ returns-in-Ok-clause-flushed g c = λ is d o.
       log = ap (λ (w : StoreView). w.log) flushed_is;
       memory = ap (λ (w : StoreView). w.memory) flushed_is;
       writes = c.in-Ok.ensures.installs.stays_down.same_writes;
+      work = ap (λ (w : StoreView). w.work) flushed_is;
     }
 
 -- ---- the store lives on
@@ -155,6 +156,7 @@ returns-in-Err-clause-lives g c =
       up = none.up;
       writes = refl;
       regions = λ on. record { geometry = refl; extents = refl };
+      job = λ on. refl;
       calls = none.calls;
     }
 
@@ -169,6 +171,7 @@ returns-in-Ok-clause-lives g c =
       up = search rules;
       writes = c.in-Ok.ensures.installs.stays_down.same_writes;
       regions = λ up. record { geometry = c.in-Ok.ensures.installs.stays_down.geometry; extents = ap (λ (m : Manifest). m.header.extents) c.in-Ok.ensures.installs.committed.manifest };
+      job = λ up. c.in-Ok.ensures.installs.stays_down.same_job;
       calls = record {
         size = c.flush_into.ensures.installs.calls.size;
         count = c.flush_into.ensures.installs.calls.count;
@@ -188,6 +191,7 @@ returns-in-Err-NoMemory-clause-lives g c =
       up = search rules;
       writes = search rules;
       regions = search rules;
+      job = search rules;
       calls = search rules;
     }
 
@@ -200,5 +204,6 @@ returns-clause-lives g c =
       up = search rules;
       writes = search rules;
       regions = search rules;
+      job = search rules;
       calls = search rules;
     }

@@ -11,7 +11,7 @@ use Rattle.lt_store.proofs.LiveLaws.{unflushed}
 use Rattle.lt_store.proofs.store.Store.flush_due.Goals as goal
 
 pub returns-clause-full_images : goal.returns-clause-full_images
-returns-clause-full_images g c = λ short is d o.
+returns-clause-full_images g c = λ short is still d o.
     let v : StoreView = view_of c.args.self.now in
     let kept = c.args.self.now.kept c.requires.up in
     let due : IsTrue (is_due v) = search rules in
@@ -21,8 +21,8 @@ returns-clause-full_images g c = λ short is d o.
     let free = lacks.free in
     let few = lacks.few in (
       (λ left may. subst (λ n. IsFullImage left n short.free) (sym needed) (subst (λ f. IsFullImage left (table_total (newest v.memory)) f) (sym free)
-          (full-image v d (g.D.Device.state c.args.device.now) _ o kept due left (subst (λ s. MayLeave s left) state may)))),
-      few-extents v d (g.D.Device.state c.args.device.now) _ o kept due (omega (arith, needed, free, few)),
+          (full-image v d (g.D.Device.state c.args.device.now) _ o kept still due left (subst (λ s. MayLeave s left) state may)))),
+      few-extents v d (g.D.Device.state c.args.device.now) _ o kept still due (omega (arith, needed, free, few)),
     )
 
 pub returns-then-pending-gt0-clause-lives : goal.returns-then-pending-gt0-clause-lives

@@ -11,12 +11,12 @@ use Rattle.lt_store.proofs.store.Store.flush_into.Goals as goal
 pub build_tables-requires-clause-below : goal.build_tables-requires-clause-below
 build_tables-requires-clause-below g c =
     let v : StoreView = view_of c.args.self.now in
-    free-below v.named c.args.numbers.now (length c.args.self.now.filters) c.requires.reserved.free c.requires.reserved.kept.kept.filters_len
+    free-below v.named v.work c.args.numbers.now (length c.args.self.now.filters) c.requires.reserved.free c.requires.reserved.kept.kept.filters_len
 
 -- ---- the log area was not cleared
 
 pub returns-in_err-clear_other-clause-stays : goal.returns-in_err-clear_other-clause-stays
-returns-in_err-clear_other-clause-stays g c = λ d o. cleared-stays (view_of c.args.self.now) d _ _ c.requires.reserved.kept o c.clear_other.ensures.confined
+returns-in_err-clear_other-clause-stays g c = λ d o. cleared-stays (view_of c.args.self.now) d _ _ c.requires.reserved.kept o c.clear_other.ensures.touches.confined
 
 pub returns-in_err-clear_other-clause-installs : goal.returns-in_err-clear_other-clause-installs
 returns-in_err-clear_other-clause-installs g c = record {
@@ -34,7 +34,7 @@ returns-in_err-build_tables-clause-stays g c = λ d o.
     let s2 = g.D.Device.state c.build_tables.new.device in
     let f : IsFilled v d (g.D.Device.state c.args.device.now) (g.D.Device.state c.clear_other.new.device) s2 c.clear_other.new.self c.args.numbers.now c.geometry.result.now c.build_tables.new.filters =
     filled v d _ _ _ c.clear_other.new.self c.args.numbers.now c.geometry.result.now c.build_tables.new.filters c.requires.reserved.kept c.requires.reserved.free c.in_ok-clear_other.ensures.ok
-    c.clear_other.ensures.confined c.in_ok-clear_other.ensures.sure c.geometry.ensures.geometry c.build_tables.ensures.confined c.build_tables.ensures.filters o in
+    c.clear_other.ensures.touches.confined c.clear_other.ensures.touches.others c.in_ok-clear_other.ensures.sure c.geometry.ensures.geometry c.build_tables.ensures.confined c.build_tables.ensures.others c.build_tables.ensures.filters o in
     f.stays
 
 pub returns-in_err-build_tables-clause-installs : goal.returns-in_err-build_tables-clause-installs
@@ -46,6 +46,7 @@ returns-in_err-build_tables-clause-installs g c = record {
     same_writes = refl;
     geometry = refl;
     room = c.build_tables.ensures.room;
+    same_job = refl;
   };
   refused = first_of (search rules, grind (arith, common_steps));
   calls = first_of (search rules, grind (arith, common_steps));
@@ -57,7 +58,7 @@ returns-in_err-build_tables-clause-opened_again g c = λ no_memory d o.
     let s2 = g.D.Device.state c.build_tables.new.device in
     let f : IsFilled v d (g.D.Device.state c.args.device.now) (g.D.Device.state c.clear_other.new.device) s2 c.clear_other.new.self c.args.numbers.now c.geometry.result.now c.build_tables.new.filters =
     filled v d _ _ _ c.clear_other.new.self c.args.numbers.now c.geometry.result.now c.build_tables.new.filters c.requires.reserved.kept c.requires.reserved.free c.in_ok-clear_other.ensures.ok
-    c.clear_other.ensures.confined c.in_ok-clear_other.ensures.sure c.geometry.ensures.geometry c.build_tables.ensures.confined c.build_tables.ensures.filters o in
+    c.clear_other.ensures.touches.confined c.clear_other.ensures.touches.others c.in_ok-clear_other.ensures.sure c.geometry.ensures.geometry c.build_tables.ensures.confined c.build_tables.ensures.others c.build_tables.ensures.filters o in
     f.opened
 
 -- ---- the manifest was committed, or not
@@ -68,7 +69,7 @@ returns-clause-stays g c = λ d o.
     let s2 = g.D.Device.state c.build_tables.new.device in
     let f : IsFilled v d (g.D.Device.state c.args.device.now) (g.D.Device.state c.clear_other.new.device) s2 c.clear_other.new.self c.args.numbers.now c.geometry.result.now c.build_tables.new.filters =
     filled v d _ _ _ c.clear_other.new.self c.args.numbers.now c.geometry.result.now c.build_tables.new.filters c.requires.reserved.kept c.requires.reserved.free c.in_ok-clear_other.ensures.ok
-    c.clear_other.ensures.confined c.in_ok-clear_other.ensures.sure c.geometry.ensures.geometry c.build_tables.ensures.confined c.build_tables.ensures.filters o in
+    c.clear_other.ensures.touches.confined c.clear_other.ensures.touches.others c.in_ok-clear_other.ensures.sure c.geometry.ensures.geometry c.build_tables.ensures.confined c.build_tables.ensures.others c.build_tables.ensures.filters o in
     let ready = f.ready (map (λ t. t.now) c.args.tables.now) c.in_ok-clear_other.ensures.empty c.in_ok-build_tables.ensures.built c.requires.tables in
     stays-joins d _ s2 (g.D.Device.state c.commit_flush.new.device) (c.commit_flush.ensures.stays d f.opened ready) f.stays
 
@@ -83,6 +84,7 @@ returns-clause-installs g c = record {
         same_writes = down.same_writes;
         geometry = down.geometry;
         room = down.room ∙ c.build_tables.ensures.room;
+        same_job = down.same_job;
       };
   refused = first_of (search rules, grind (arith, common_steps));
   calls = first_of (search rules, grind (arith, common_steps));
@@ -94,7 +96,7 @@ returns-clause-opened g c = on_ok_weaker c.commit_flush.result (λ opens d o.
     let s2 = g.D.Device.state c.build_tables.new.device in
     let f : IsFilled v d (g.D.Device.state c.args.device.now) (g.D.Device.state c.clear_other.new.device) s2 c.clear_other.new.self c.args.numbers.now c.geometry.result.now c.build_tables.new.filters =
     filled v d _ _ _ c.clear_other.new.self c.args.numbers.now c.geometry.result.now c.build_tables.new.filters c.requires.reserved.kept c.requires.reserved.free c.in_ok-clear_other.ensures.ok
-    c.clear_other.ensures.confined c.in_ok-clear_other.ensures.sure c.geometry.ensures.geometry c.build_tables.ensures.confined c.build_tables.ensures.filters o in
+    c.clear_other.ensures.touches.confined c.clear_other.ensures.touches.others c.in_ok-clear_other.ensures.sure c.geometry.ensures.geometry c.build_tables.ensures.confined c.build_tables.ensures.others c.build_tables.ensures.filters o in
     let ready = f.ready (map (λ t. t.now) c.args.tables.now) c.in_ok-clear_other.ensures.empty c.in_ok-build_tables.ensures.built c.requires.tables in
     opens d f.opened ready) c.commit_flush.ensures.opened
 
@@ -104,7 +106,7 @@ returns-clause-tables g c = on_ok_weaker c.commit_flush.result (λ there d o.
     let s2 = g.D.Device.state c.build_tables.new.device in
     let f : IsFilled v d (g.D.Device.state c.args.device.now) (g.D.Device.state c.clear_other.new.device) s2 c.clear_other.new.self c.args.numbers.now c.geometry.result.now c.build_tables.new.filters =
     filled v d _ _ _ c.clear_other.new.self c.args.numbers.now c.geometry.result.now c.build_tables.new.filters c.requires.reserved.kept c.requires.reserved.free c.in_ok-clear_other.ensures.ok
-    c.clear_other.ensures.confined c.in_ok-clear_other.ensures.sure c.geometry.ensures.geometry c.build_tables.ensures.confined c.build_tables.ensures.filters o in
+    c.clear_other.ensures.touches.confined c.clear_other.ensures.touches.others c.in_ok-clear_other.ensures.sure c.geometry.ensures.geometry c.build_tables.ensures.confined c.build_tables.ensures.others c.build_tables.ensures.filters o in
     let ready = f.ready (map (λ t. t.now) c.args.tables.now) c.in_ok-clear_other.ensures.empty c.in_ok-build_tables.ensures.built c.requires.tables in
     there d f.opened ready) c.commit_flush.ensures.tables
 
@@ -114,6 +116,6 @@ returns-clause-opened_again g c = λ no_memory d o.
     let s2 = g.D.Device.state c.build_tables.new.device in
     let f : IsFilled v d (g.D.Device.state c.args.device.now) (g.D.Device.state c.clear_other.new.device) s2 c.clear_other.new.self c.args.numbers.now c.geometry.result.now c.build_tables.new.filters =
     filled v d _ _ _ c.clear_other.new.self c.args.numbers.now c.geometry.result.now c.build_tables.new.filters c.requires.reserved.kept c.requires.reserved.free c.in_ok-clear_other.ensures.ok
-    c.clear_other.ensures.confined c.in_ok-clear_other.ensures.sure c.geometry.ensures.geometry c.build_tables.ensures.confined c.build_tables.ensures.filters o in
+    c.clear_other.ensures.touches.confined c.clear_other.ensures.touches.others c.in_ok-clear_other.ensures.sure c.geometry.ensures.geometry c.build_tables.ensures.confined c.build_tables.ensures.others c.build_tables.ensures.filters o in
     let unchanged = c.commit_flush.ensures.unchanged no_memory in
     subst (λ (w : StoreView). IsOpen w d (g.D.Device.state c.commit_flush.new.device)) (sym unchanged.0) (subst (λ s. IsOpen (with_kept (record v { log = c.clear_other.new.self }) c.build_tables.new.filters) d s) (sym (ap g.D.Device.state unchanged.1)) f.opened)

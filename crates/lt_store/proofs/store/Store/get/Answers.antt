@@ -36,9 +36,9 @@ pub returns-in_err-version-in-None-clause-damaged : goal.returns-in_err-version-
 returns-in_err-version-in-None-clause-damaged g c = λ b is.
     let s = c.args.self.now in
     let was : IsErrOf c.search.result (Damaged b) = search rules in
-    path-stops s.manifest c.trie.ensures.kept _ c.args.key.now b (c.search.ensures.damaged b was)
+    path-stops s.manifest c.trie.ensures.kept _ c.args.key.now b (c.search.ensures.ends.damaged b was)
     (subst (λ (t : Trie). IsBucketOnPath s.manifest.geometry t c.args.key.now b) c.trie.ensures.nodes
-    (subst (λ (h : Geometry). IsBucketOnPath h c.trie.result.now.nodes c.args.key.now b) c.geometry.ensures.geometry (c.search.ensures.damaged_block b was)))
+    (subst (λ (h : Geometry). IsBucketOnPath h c.trie.result.now.nodes c.args.key.now b) c.geometry.ensures.geometry (c.search.ensures.ends.damaged_block b was)))
 
 pub returns-in_err-version-in-None-clause-bound : goal.returns-in_err-version-in-None-clause-bound
 returns-in_err-version-in-None-clause-bound g c = λ durable opened image told p opens.

@@ -30,6 +30,7 @@ returns-then-self g c =
         undamaged = search rules;
       };
       up = search rules;
+      job = search rules;
     }
 
 pub returns-in_err-commit_full : goal.returns-in_err-commit_full
@@ -47,6 +48,7 @@ returns-in_err-commit_full g c = record {
     undamaged = search rules;
   };
   up = search rules;
+  job = search rules;
 }
 
 pub returns-in_err-flush_due : goal.returns-in_err-flush_due
@@ -91,6 +93,7 @@ returns-in_err-flush_due g c =
         undamaged = search rules;
       };
       up = search rules;
+      job = search rules;
     }
 
 pub returns-in-None : goal.returns-in-None
@@ -141,6 +144,7 @@ returns-in-None g c =
         undamaged = search rules;
       };
       up = search rules;
+      job = search rules;
     }
 
 pub returns-in-Some : goal.returns-in-Some
@@ -175,12 +179,12 @@ returns-in-Some g c =
         later = omega (arith, lives.calls.later, committed.calls.later);
         cause = search rules;
         refused = search rules;
-        full_images = λ needed free same d o.
+        full_images = λ needed free same still d o.
             let went = committed.goes d o in
             let rest : w ≡ record v { log = w.log } = c.in_ok-commit_full.ensures.rest in
             let extents : w.named.manifest.header.extents ≡ v.named.manifest.header.extents = ap (λ (z : StoreView). z.named.manifest.header.extents) rest in
             let writes : w.writes ≡ v.writes = ap (λ (z : StoreView). z.writes) rest in
-            let (images, few) = c.in_ok-flush_due.ensures.full_images c.in-Some.field-0 (ap Ok c.in-Some.is) _ went.opened in
+            let (images, few) = c.in_ok-flush_due.ensures.full_images c.in-Some.field-0 (ap Ok c.in-Some.is) (ap (λ (z : StoreView). z.work.job) rest ∙ still) _ went.opened in
             ((λ left may. full-alike (IsFullImage left) c.in-Some.field-0.needed c.in-Some.field-0.free needed free same (images left may)), omega (arith, few, extents, writes));
       };
       in_place = record {
@@ -191,4 +195,5 @@ returns-in-Some g c =
         undamaged = search rules;
       };
       up = search rules;
+      job = search rules;
     }
