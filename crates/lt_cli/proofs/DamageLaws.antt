@@ -9,7 +9,7 @@ use Rattle.lt_serve.specs.Promise.{FoundByGet, GainsSome, ServesSeen, Sight}
 use Rattle.lt_serve.specs.declared.served.Served.{Served}
 use Rattle.lt_serve.specs.declared.served.Served.TheVariants as ends
 use Rattle.lt_store.specs.Promise.{StopsOpening}
-use Rattle.lt_cli.specs.Promise.{FoundDamage, RunSeen, Tells, damage_line, status_of}
+use Rattle.lt_cli.specs.Promise.{FoundDamage, RunSeen, ShowsLine, damage_line, status_of}
 
 module _ (stands0 stands1 stands : List ℕ → Type 0) (faults0 faults1 faults : ℕ) (line shown : List ℕ) (gained : Gains stands0 stands1 shown) (later : faults0 ≤ faults1) where
   -- a front of the line was told behind what was shown
@@ -45,10 +45,10 @@ found-damage left0 left stands0 stands1 stands faults0 faults1 faults old new bl
 
 -- where nothing was shown, the sink is given the line of the block
 pub tells-damage : (stands0 stands1 stands : List ℕ → Type 0) (faults0 faults1 faults : ℕ) (block b : ℕ) (r : Result (Unit {0}) Failed) → block ≡ b → stands1 ≡ stands0 → faults0 ≤ faults1
-    → OnOk r (Gains stands1 stands (damage_line block)) → OnErr r (GainsFront stands1 stands (damage_line block)) → HasCause faults1 faults r → Tells stands0 stands faults0 faults (damage_line b)
+    → OnOk r (Gains stands1 stands (damage_line block)) → OnErr r (GainsFront stands1 stands (damage_line block)) → HasCause faults1 faults r → ShowsLine stands0 stands faults0 faults (damage_line b)
 tells-damage stands0 stands1 stands faults0 faults1 faults block b r same none later all front cause =
     let gained : Gains stands0 stands1 [] = subst (λ (s : List ℕ → Type 0). Gains stands0 s []) (sym none) (Gains-none stands0) in
-    subst (λ (n : ℕ). Tells stands0 stands faults0 faults (damage_line n)) same
+    subst (λ (n : ℕ). ShowsLine stands0 stands faults0 faults (damage_line n)) same
     (record {
       front = told-front stands0 stands1 stands faults0 faults1 faults (damage_line block) [] gained later r all front;
       whole = told-whole stands0 stands1 stands faults0 faults1 faults (damage_line block) [] gained later r all cause;

@@ -26,7 +26,7 @@ use Rattle.lt_io.specs.declared.sink.Sink.{Ghosts as Sinks}
 use Rattle.lt_io.specs.declared.source.Source.{Ghosts as Sources}
 use Rattle.lt_image.specs.Versions.{Opened, open_image}
 use Rattle.lt_language.specs.Machine.{State}
-use Rattle.lt_serve.specs.Promise.{AnswersSeen, FailsToOpen, FoundByGet, IsSound, Moment, Sight, TurnedOver, moment_of}
+use Rattle.lt_serve.specs.Promise.{AnswersSeen, FailsToOpen, FoundByGet, IsSound, Moment, Sight, EndedTaking, moment_of}
 
 -- `run`
 abbrev pub IsRun : List (String Global) → Type 0
@@ -116,7 +116,7 @@ abbrev pub occupied_line : List ℕ
 occupied_line = codes "OCCUPIED" ++ line_feed ∷ []
 
 -- the sink took a front of the line, and all of it where its count did not rise
-pub record Tells (stands0 stands : List ℕ → Type 0) (faults0 faults : ℕ) (line : List ℕ) : Type 0 where
+pub record ShowsLine (stands0 stands : List ℕ → Type 0) (faults0 faults : ℕ) (line : List ℕ) : Type 0 where
   pub front : GainsFront stands0 stands line
   pub whole : (Rose faults0 faults → ⊥) → Gains stands0 stands line
 
@@ -132,8 +132,8 @@ pub record IsRefused (g : Geometry) (extents blocks : ℕ) (stands0 stands : Lis
     → Type 0) (faults0 faults : ℕ) (old new : told.State) : Type 0 where
   pub unwritten : new ≡ old
   pub cause : ((blocks < blocks_needed g extents)
-      × Tells stands0 stands faults0 faults (small_line (blocks_needed g extents) blocks))
-      ⊎ ((blocks_needed g extents ≤ blocks) × IsOccupied old × Tells stands0 stands faults0 faults occupied_line)
+      × ShowsLine stands0 stands faults0 faults (small_line (blocks_needed g extents) blocks))
+      ⊎ ((blocks_needed g extents ≤ blocks) × IsOccupied old × ShowsLine stands0 stands faults0 faults occupied_line)
 
 -- a device that tells that something stands on its first block is as before
 abbrev pub IsSpared : told.State → told.State → Type 0
@@ -141,12 +141,12 @@ IsSpared old new = ForSome old.shown (λ image. block_at image 0 ≢ zero_block 
 
 -- A run on a device at rest for `before`, in a store of e extents: how serving ended, from nothing taken and nothing
 -- shown.
-pub record Ended (e : ℕ) (before : State) (status : Status) (left0 left : Option (List ℕ)) (stands0 stands : List ℕ
+pub record RunEnded (e : ℕ) (before : State) (status : Status) (left0 left : Option (List ℕ)) (stands0 stands : List ℕ
     → Type 0) (faults0 faults : ℕ) (old new : Moment) : Type 0 where
   pub served : Served
   pub is : status ≡ status_of served
   pub sound : IsSound served
-  pub over : TurnedOver e before served [] [] left0 left stands0 stands faults0 faults old new
+  pub over : EndedTaking e before served [] [] left0 left stands0 stands faults0 faults old new
 
 -- A block does not stand: opening stops at it, and nothing was read or answered; or a get does, behind what was
 -- shown. The sink took the line that names the block, whole where its count did not rise.
@@ -160,9 +160,10 @@ pub record FoundDamage (left0 left : Option (List ℕ)) (stands0 stands : List �
 
 -- A run on a device whose opening stops at this block: the status tells of damage, and the sink is given the line
 -- that names the block, unless the device failed or memory was short.
-pub record Unopened (block : ℕ) (status : Status) (stands0 stands : List ℕ → Type 0) (faults0 faults : ℕ) : Type 0 where
+pub record RunUnopened (block : ℕ) (status : Status) (stands0 stands : List ℕ → Type 0) (faults0 faults : ℕ)
+    : Type 0 where
   pub is : IsUnopenedEnd status
-  pub told : status ≡ Damaged → Tells stands0 stands faults0 faults (damage_line block)
+  pub told : status ≡ Damaged → ShowsLine stands0 stands faults0 faults (damage_line block)
 
 -- A run on a device whose blocks open: what was taken of the source was answered by what is seen of the keys, and the
 -- sink took these answers. Behind them it took a front of the line of the damaged block, where one is named.
@@ -180,7 +181,7 @@ pub record RunSeen (sight : Sight) (status : Status) (left0 left : Option (List 
 -- `run` on a device at rest for a state
 abbrev pub EndsAtRest : {S K D : Type 0} → Sources S → Sinks K → Devices D → Status → S → S → K → K → D → D → Type 0
 EndsAtRest u k d status source0 source sink0 sink old new = (before : State) (r : AtRest before (d.state old))
-    → Ended r.named.manifest.header.extents before status (u.left source0) (u.left source) (k.stands sink0)
+    → RunEnded r.named.manifest.header.extents before status (u.left source0) (u.left source) (k.stands sink0)
     (k.stands sink) (k.faults sink0) (k.faults sink) (moment_of d old) (moment_of d new)
 
 -- a run that found a block which does not stand
@@ -198,7 +199,7 @@ EndsSeen u k d status source0 source sink0 sink old = (image : Image) (opened : 
 -- line of that block is all that is shown
 abbrev pub EndsUnopened : {S K D : Type 0} → Sinks K → Devices D → Status → S → S → K → K → D → D → Type 0
 EndsUnopened k d status source0 source sink0 sink old new = (b : ℕ) → FailsToOpen (d.state old) b
-    → Unopened b status (k.stands sink0) (k.stands sink) (k.faults sink0) (k.faults sink)
+    → RunUnopened b status (k.stands sink0) (k.stands sink) (k.faults sink0) (k.faults sink)
     × (d.state new ≡ d.state old) × (source ≡ source0) × ((status ≡ Damaged → ⊥) → sink ≡ sink0)
 
 -- A status that tells of a fault comes only where its count rose, and one that tells of too many pieces only where so

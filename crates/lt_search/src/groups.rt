@@ -1,20 +1,15 @@
 //! Asking the tables of a last-level pile, group after group.
 
-ghost use Rattle.std.specs.Prelude.{◌≡◌, ℕ, ◌+◌, ◌*◌, ◌^◌, ◌<◌, ◌≤◌, Some, IfOk, IsErrOf, IsTrue, drop};
+ghost use Rattle.std.specs.Prelude.{◌≡◌, ◌+◌, ◌*◌, ◌^◌, ◌<◌, Some, IsErrOf, IsTrue, drop};
 ghost use Rattle.std.specs.Prelude.{length, take};
-ghost use Rattle.std.specs.List.{AllByRecursion};
-ghost use Rattle.std.specs.Option.{ForSome};
 ghost use Rattle.lt_terms.specs.Bytes.{Image};
 ghost use Rattle.lt_item.specs.Parts.{IsInRange, parts_of};
 ghost use Rattle.lt_device.specs.Calls.{OnlyReads};
 ghost use Rattle.lt_format.specs.declared.node_id.NodeId.{NodeId};
-ghost use Rattle.lt_format.specs.Layout.{extent_block};
 ghost use Rattle.lt_format.specs.Trie.{groups_for, is_last_level};
-ghost use Rattle.lt_htable.specs.Reading.{IsNoBucket};
 ghost use Rattle.lt_search.specs.Seen.{asks_group};
-ghost use Rattle.lt_search.specs.Found.{KeepsUnless, value_len};
 ghost use Rattle.lt_search.specs.Reads.{path_reads};
-ghost use Rattle.lt_search.specs.Searched.{Searched};
+ghost use Rattle.lt_search.specs.Searched.{AreWithin, EndsSearch, Searched};
 ghost use Rattle.lt_search.specs.Seen.{IsBucketOf, pile_stops};
 
 use crate::tables::{Filters, search_tables};
@@ -39,10 +34,8 @@ pub(super) fn search_groups<D: Device>(
     page: &mut Page,
     out: &mut Page,
 ) -> Result<Option<Version>, LookFault>
-    requires within { AllByRecursion (λ x. extent_block geometry.now x + 65 ≤ D.blocks device.old)
-        tables.now }
-    requires groups_within { AllByRecursion
-        (λ x. extent_block geometry.now x + 65 ≤ D.blocks device.old) groups.now }
+    requires within { AreWithin geometry.now (D.blocks device.old) tables.now }
+    requires groups_within { AreWithin geometry.now (D.blocks device.old) groups.now }
     requires groups { length groups.now ≡ groups_for (length tables.now) }
     requires parts { parts.now ≡ parts_of key.now }
     requires range { IsInRange parts.now }
@@ -51,12 +44,8 @@ pub(super) fn search_groups<D: Device>(
         → Searched (asks_group geometry.now groups.now image key.now) path_reads geometry.now image
         key.now (pile_stops id 0 tables.now) result out.old out.new (D.reads device.old)
         (D.reads device.new) }
-    ensures short { IfOk result (λ version. ForSome (value_len version) (λ n. n ≤ 3000)) }
-    ensures page { KeepsUnless result out.old out.new }
-    ensures damaged { (b : ℕ) → IsErrOf result (LookFault.Damaged b)
-        → IsNoBucket (D.state device.old).shown b }
-    ensures damaged_block { (b : ℕ) → IsErrOf result (LookFault.Damaged b)
-        → IsBucketOf geometry.now tables.now b }
+    ensures ends { EndsSearch (IsBucketOf geometry.now tables.now) (D.state device.old).shown
+        result out.old out.new }
     ensures calls { OnlyReads D.Device (2 * length tables.now + length groups.now)
         (IsErrOf result LookFault.Device) device.old device.new }
 {

@@ -1,14 +1,14 @@
 //! The filters of inner tables, which are kept in memory.
 
-ghost use Rattle.std.specs.Prelude.{◌≡◌, ℕ, ◌+◌, ◌<◌, ◌≤◌, List, [], ◌++◌, None, Some, IfOk, IsErrOf, OnOk, length};
+ghost use Rattle.std.specs.Prelude.{◌≡◌, ℕ, ◌+◌, ◌<◌, List, ◌++◌, None, Some, IfOk, IsErrOf, OnOk, length};
 ghost use Rattle.std.specs.Prelude.{replicate, slice_set};
 ghost use Rattle.std.specs.List.{AllByRecursion};
 ghost use Rattle.std.specs.Option.{ForSome};
 ghost use Rattle.lt_terms.specs.Bytes.{Image};
 ghost use Rattle.lt_device.specs.Calls.{OnlyReads};
-ghost use Rattle.lt_format.specs.Layout.{extent_block};
 ghost use Rattle.lt_format.specs.Trie.{named};
 ghost use Rattle.lt_item.specs.Parts.{IsInRange, parts_of};
+ghost use Rattle.lt_search.specs.Searched.{AreWithin};
 ghost use Rattle.lt_search.specs.Kept.{KeepsExactly, inner_tables, may_hold};
 
 use lt_bloom::FilterPage;
@@ -58,8 +58,7 @@ impl InnerFilters {
     ) -> Result<InnerFilters, BuildFault>
         requires levels { trie.now.levels ≡ geometry.now.levels }
         requires below { AllByRecursion (λ x. x < extents) (named trie.now.nodes) }
-        requires within { AllByRecursion
-            (λ x. extent_block geometry.now x + 65 ≤ D.blocks device.old) (named trie.now.nodes) }
+        requires within { AreWithin geometry.now (D.blocks device.old) (named trie.now.nodes) }
         ensures len { IfOk result (λ filters. length filters ≡ extents) }
         ensures filters { IfOk result (λ filters. ForSome (D.state device.old).shown
             (KeepsExactly geometry.now filters
@@ -88,8 +87,7 @@ impl InnerFilters {
         tables: &[u32],
     ) -> Result<(), BuildFault>
         requires below { AllByRecursion (λ x. x < length self.old) tables.now }
-        requires within { AllByRecursion
-            (λ x. extent_block geometry.now x + 65 ≤ D.blocks device.old) tables.now }
+        requires within { AreWithin geometry.now (D.blocks device.old) tables.now }
         ensures len { length self.new ≡ length self.old }
 
         // Beside those that were kept before.

@@ -1,23 +1,19 @@
 //! Searching along a key's path.
 
-ghost use Rattle.std.specs.Prelude.{◌≡◌, ℕ, ◌+◌, ◌-◌, ◌*◌, ◌<◌, ◌≤◌, Some, IfOk, IsErrOf};
-ghost use Rattle.std.specs.List.{AllByRecursion};
-ghost use Rattle.std.specs.Option.{ForSome};
+ghost use Rattle.std.specs.Prelude.{◌≡◌, ◌-◌, ◌*◌, ◌<◌, Some, IsErrOf};
 ghost use Rattle.lt_terms.specs.Bytes.{Image};
 ghost use Rattle.lt_item.specs.Parts.{IsInRange, parts_of};
 ghost use Rattle.lt_device.specs.Calls.{OnlyReads};
 ghost use Rattle.lt_device.specs.Reads.{CountsAtMost};
-ghost use Rattle.lt_format.specs.Layout.{extent_block};
 ghost use Rattle.lt_format.specs.Trie.{named};
-ghost use Rattle.lt_htable.specs.Reading.{IsNoBucket};
 ghost use Rattle.lt_image.specs.Bound.{met, reads_of};
 ghost use Rattle.lt_image.specs.Versions.{at_stops, stops, items_at};
 ghost use Rattle.lt_search.specs.Asking.{asks_kept, inner_asked, is_asked, most_reads};
-ghost use Rattle.lt_search.specs.Found.{IsAnswer, KeepsUnless, value_len};
+ghost use Rattle.lt_search.specs.Found.{IsAnswer};
 ghost use Rattle.lt_search.specs.Kept.{IsSoundWith};
 ghost use Rattle.lt_search.specs.Reads.{bucket_reads, path_reads};
-ghost use Rattle.lt_search.specs.Searched.{Searched};
-ghost use Rattle.lt_search.specs.Seen.{IsBucketOnPath, IsSeen, met_along, seen_along};
+ghost use Rattle.lt_search.specs.Searched.{AreWithin, EndsSearch, Searched, reads_on_path, seen_on_path};
+ghost use Rattle.lt_search.specs.Seen.{IsBucketOnPath, IsSeen};
 
 use crate::groups::search_groups;
 use crate::kept::InnerFilters;
@@ -48,8 +44,7 @@ pub fn search<D: Device>(
     out: &mut Page,
 ) -> Result<Option<Version>, LookFault>
     requires levels { trie.now.levels ≡ geometry.now.levels }
-    requires within { AllByRecursion (λ x. extent_block geometry.now x + 65 ≤ D.blocks device.old)
-        (named trie.now.nodes) }
+    requires within { AreWithin geometry.now (D.blocks device.old) (named trie.now.nodes) }
     requires parts { parts.now ≡ parts_of key.now }
     requires range { IsInRange parts.now }
 
@@ -66,21 +61,14 @@ pub fn search<D: Device>(
 
     // Whatever the blocks hold, it is what they tell, or the block that spells no bucket.
     ensures seen { (image : Image) → (D.state device.old).shown ≡ Some image
-        → let asks = is_asked geometry.now filters.now image trie.now.nodes key.now in
-        IsSeen (seen_along asks geometry.now image key.now
-        (stops geometry.now.levels trie.now.nodes key.now)) result out.old out.new }
+        → IsSeen (seen_on_path geometry.now filters.now image trie.now.nodes key.now)
+        result out.old out.new }
     ensures reads { (image : Image) → (D.state device.old).shown ≡ Some image
-        → let asks = is_asked geometry.now filters.now image trie.now.nodes key.now in
-        CountsAtMost (path_reads asks geometry.now image key.now (met_along asks geometry.now image
-        key.now (stops geometry.now.levels trie.now.nodes key.now))) (D.reads device.old)
-        (D.reads device.new) }
+        → CountsAtMost (reads_on_path geometry.now filters.now image trie.now.nodes key.now)
+        (D.reads device.old) (D.reads device.new) }
 
-    ensures short { IfOk result (λ version. ForSome (value_len version) (λ n. n ≤ 3000)) }
-    ensures page { KeepsUnless result out.old out.new }
-    ensures damaged { (b : ℕ) → IsErrOf result (LookFault.Damaged b)
-        → IsNoBucket (D.state device.old).shown b }
-    ensures damaged_block { (b : ℕ) → IsErrOf result (LookFault.Damaged b)
-        → IsBucketOnPath geometry.now trie.now.nodes key.now b }
+    ensures ends { EndsSearch (IsBucketOnPath geometry.now trie.now.nodes key.now) (D.state device.old).shown
+        result out.old out.new }
     ensures calls { OnlyReads D.Device
         (most_reads geometry.now.levels filters.now trie.now.nodes key.now)
         (IsErrOf result LookFault.Device) device.old device.new }
@@ -103,20 +91,15 @@ fn walk<D: Device>(
     out: &mut Page,
 ) -> Result<Option<Version>, LookFault>
     requires levels { trie.now.levels ≡ geometry.now.levels }
-    requires within { AllByRecursion (λ x. extent_block geometry.now x + 65 ≤ D.blocks device.old)
-        (named trie.now.nodes) }
+    requires within { AreWithin geometry.now (D.blocks device.old) (named trie.now.nodes) }
     requires parts { parts.now ≡ parts_of key.now }
     requires range { IsInRange parts.now }
     ensures searched { (image : Image) → (D.state device.old).shown ≡ Some image
         → Searched (is_asked geometry.now filters.now image trie.now.nodes key.now) path_reads
         geometry.now image key.now (stops geometry.now.levels trie.now.nodes key.now) result out.old
         out.new (D.reads device.old) (D.reads device.new) }
-    ensures short { IfOk result (λ version. ForSome (value_len version) (λ n. n ≤ 3000)) }
-    ensures page { KeepsUnless result out.old out.new }
-    ensures damaged { (b : ℕ) → IsErrOf result (LookFault.Damaged b)
-        → IsNoBucket (D.state device.old).shown b }
-    ensures damaged_block { (b : ℕ) → IsErrOf result (LookFault.Damaged b)
-        → IsBucketOnPath geometry.now trie.now.nodes key.now b }
+    ensures ends { EndsSearch (IsBucketOnPath geometry.now trie.now.nodes key.now) (D.state device.old).shown
+        result out.old out.new }
     ensures calls { OnlyReads D.Device
         (most_reads geometry.now.levels filters.now trie.now.nodes key.now)
         (IsErrOf result LookFault.Device) device.old device.new }
@@ -145,20 +128,15 @@ fn search_inner<D: Device>(
     out: &mut Page,
 ) -> Result<Option<Version>, LookFault>
     requires levels { trie.now.levels ≡ geometry.now.levels }
-    requires within { AllByRecursion (λ x. extent_block geometry.now x + 65 ≤ D.blocks device.old)
-        (named trie.now.nodes) }
+    requires within { AreWithin geometry.now (D.blocks device.old) (named trie.now.nodes) }
     requires parts { parts.now ≡ parts_of key.now }
     requires range { IsInRange parts.now }
     ensures searched { (image : Image) → (D.state device.old).shown ≡ Some image
         → Searched (asks_kept filters.now key.now) bucket_reads geometry.now image key.now
         (stops (geometry.now.levels - 1) trie.now.nodes key.now) result out.old out.new
         (D.reads device.old) (D.reads device.new) }
-    ensures short { IfOk result (λ version. ForSome (value_len version) (λ n. n ≤ 3000)) }
-    ensures page { KeepsUnless result out.old out.new }
-    ensures damaged { (b : ℕ) → IsErrOf result (LookFault.Damaged b)
-        → IsNoBucket (D.state device.old).shown b }
-    ensures damaged_block { (b : ℕ) → IsErrOf result (LookFault.Damaged b)
-        → IsBucketOnPath geometry.now trie.now.nodes key.now b }
+    ensures ends { EndsSearch (IsBucketOnPath geometry.now trie.now.nodes key.now) (D.state device.old).shown
+        result out.old out.new }
     ensures calls { OnlyReads D.Device
         (2 * inner_asked filters.now trie.now.nodes key.now (geometry.now.levels - 1))
         (IsErrOf result LookFault.Device) device.old device.new }

@@ -1,19 +1,14 @@
 //! Asking the tables of a pile one after another.
 
-ghost use Rattle.std.specs.Prelude.{◌≡◌, ℕ, ◌+◌, ◌*◌, ◌<◌, ◌≤◌, List, Some, IfOk, IsErrOf, count_by};
-ghost use Rattle.std.specs.List.{AllByRecursion};
-ghost use Rattle.std.specs.Option.{ForSome};
+ghost use Rattle.std.specs.Prelude.{◌≡◌, ℕ, ◌+◌, ◌*◌, ◌<◌, ◌≤◌, List, Some, IsErrOf, count_by};
 ghost use Rattle.lt_terms.specs.Bytes.{Image};
 ghost use Rattle.lt_item.specs.Parts.{IsInRange, parts_of};
 ghost use Rattle.lt_device.specs.Calls.{OnlyReads};
 ghost use Rattle.lt_device.specs.Reads.{CountsAtMost};
 ghost use Rattle.lt_format.specs.declared.node_id.NodeId.{NodeId};
-ghost use Rattle.lt_format.specs.Layout.{extent_block};
-ghost use Rattle.lt_htable.specs.Reading.{IsNoBucket};
 ghost use Rattle.lt_search.specs.Asking.{asks_of, is_answered, may_ask};
-ghost use Rattle.lt_search.specs.Found.{KeepsUnless, value_len};
 ghost use Rattle.lt_search.specs.Reads.{bucket_reads, look_reads};
-ghost use Rattle.lt_search.specs.Searched.{Searched};
+ghost use Rattle.lt_search.specs.Searched.{AreWithin, EndsSearch, Searched};
 ghost use Rattle.lt_search.specs.Seen.{IsBucketOf, IsSeen, pile_stops, seen_in};
 
 use crate::kept::InnerFilters;
@@ -61,8 +56,7 @@ pub(super) fn search_tables<D: Device>(
     page: &mut Page,
     out: &mut Page,
 ) -> Result<Option<Version>, LookFault>
-    requires within { AllByRecursion (λ x. extent_block geometry.now x + 65 ≤ D.blocks device.old)
-        tables.now }
+    requires within { AreWithin geometry.now (D.blocks device.old) tables.now }
     requires parts { parts.now ≡ parts_of key.now }
     requires range { IsInRange parts.now }
 
@@ -72,12 +66,8 @@ pub(super) fn search_tables<D: Device>(
         → Searched (asks_of filters.now key.now) bucket_reads geometry.now image key.now
         (pile_stops id (64 * group) tables.now) result out.old out.new (D.reads device.old)
         (D.reads device.new) }
-    ensures short { IfOk result (λ version. ForSome (value_len version) (λ n. n ≤ 3000)) }
-    ensures page { KeepsUnless result out.old out.new }
-    ensures damaged { (b : ℕ) → IsErrOf result (LookFault.Damaged b)
-        → IsNoBucket (D.state device.old).shown b }
-    ensures damaged_block { (b : ℕ) → IsErrOf result (LookFault.Damaged b)
-        → IsBucketOf geometry.now tables.now b }
+    ensures ends { EndsSearch (IsBucketOf geometry.now tables.now) (D.state device.old).shown
+        result out.old out.new }
     ensures calls { OnlyReads D.Device (2 * count_by (may_ask filters.now key.now) tables.now)
         (IsErrOf result LookFault.Device) device.old device.new }
 {
@@ -109,12 +99,8 @@ fn look_into<D: Device>(
         → IsSeen (seen_in image first key.now) result out.old out.new }
     ensures reads { (image : Image) → (D.state device.old).shown ≡ Some image
         → CountsAtMost (look_reads image first key.now) (D.reads device.old) (D.reads device.new) }
-    ensures short { IfOk result (λ version. ForSome (value_len version) (λ n. n ≤ 3000)) }
-    ensures page { KeepsUnless result out.old out.new }
-    ensures damaged { (b : ℕ) → IsErrOf result (LookFault.Damaged b)
-        → IsNoBucket (D.state device.old).shown b }
-    ensures damaged_block { (b : ℕ) → IsErrOf result (LookFault.Damaged b) → (column : ℕ)
-        × (column < 64) × (b ≡ first + column) }
+    ensures ends { EndsSearch (λ b. (column : ℕ) × (column < 64) × (b ≡ first + column)) (D.state device.old).shown
+        result out.old out.new }
     ensures calls { OnlyReads D.Device 2 (IsErrOf result LookFault.Device) device.old device.new }
 {
     match look(device, first, key, parts, page) {

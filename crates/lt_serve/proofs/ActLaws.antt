@@ -30,7 +30,7 @@ use Rattle.lt_store.specs.Going.{Goes, Survives}
 use Rattle.lt_store.specs.Open.{IsOpen, StoreView, extents_of, state_of}
 use Rattle.lt_store.specs.Promise.{AtRest}
 use Rattle.lt_store.proofs.GoLaws.{goes-none, open-rests}
-use Rattle.lt_serve.specs.Acting.{Answers, Lost, TellsStat}
+use Rattle.lt_serve.specs.Acting.{CommandAnswered, CommandFailed, TellsStat}
 use Rattle.lt_serve.specs.Faults.{round_fault_of}
 use Rattle.lt_serve.specs.Outcomes.{HasValue, is_taken, most_text, outcome_text, reply_text}
 use Rattle.lt_serve.specs.Promise.{KeepsPast, Moment, Runs, is_ok}
@@ -183,7 +183,7 @@ tells-some v old new outcomes.Committed page later past stat = tt
 answers-reply : (v w : StoreView) (durable : State) (command : Command) (item : Option Item) (outcome : Outcome) (reply : Option Reply) (waiting0 waiting : Waiting) (old new : Moment)
     → IsStep (extents_of v) (state_of v durable) (Some command) reply (after_writes (state_of v durable) (accepted_as outcome item)) → IsTakenAs command item outcome reply → IsOkAs outcome reply
     → Goes v (accepted_as outcome item) w durable old.state new.state → (v.log.pending ≡ [] → accepted_as outcome item ≡ [] → new.state ≡ old.state) → TellsSome v old new reply → length (reply_text reply) ≤ waiting0.room → waiting ≡ with_text waiting0 (reply_text reply)
-    → Answers v durable command (is_taken outcome) waiting0 waiting w old new
+    → CommandAnswered v durable command (is_taken outcome) waiting0 waiting w old new
 answers-reply v w durable command item outcome None waiting0 waiting old new step taken ok goes quiet stat fits told = absurd step
 answers-reply v w durable command item outcome (Some reply) waiting0 waiting old new step taken ok goes quiet stat fits told = record {
   reply = reply;
@@ -206,7 +206,7 @@ pub answers-event : (v w : StoreView) (durable : State) (event : EventView) (com
     → old.reads ≤ new.reads → KeepsPast old.state new.state → ((s : Stat) → outcome ≡ outcomes.Stat s → IsStatOf v old s)
     → ((n : ℕ) → outcome ≡ outcomes.Value n → value ≡ take n page) → HasValue outcome value
     → length (outcome_text outcome value) ≤ most_text → 3007 ≤ waiting0.room → waiting ≡ with_text waiting0 (outcome_text outcome value)
-    → Answers v durable command (is_taken outcome) waiting0 waiting w old new
+    → CommandAnswered v durable command (is_taken outcome) waiting0 waiting w old new
 answers-event v w durable event command outcome page value waiting0 waiting old new is step goes asked full limit later past stat front has short room told =
     let same : outcome_text outcome value ≡ reply_text (reply_of outcome page) = same-text outcome page value front has in
     let len : length (outcome_text outcome value) ≡ length (reply_text (reply_of outcome page)) = ap length same in
@@ -216,7 +216,7 @@ answers-event v w durable event command outcome page value waiting0 waiting old 
 
 -- a line was refused
 pub answers-bad : (v : StoreView) (durable : State) (kind : Bad) (waiting0 waiting : Waiting) (s : Moment) → IsOpen v durable s.state
-    → length (text (replies.bad kind)) ≤ most_text → 3007 ≤ waiting0.room → waiting ≡ with_text waiting0 (text (replies.bad kind)) → Answers v durable (commands.bad kind) false waiting0 waiting v s s
+    → length (text (replies.bad kind)) ≤ most_text → 3007 ≤ waiting0.room → waiting ≡ with_text waiting0 (text (replies.bad kind)) → CommandAnswered v durable (commands.bad kind) false waiting0 waiting v s s
 answers-bad v durable kind waiting0 waiting s opened short room told = record {
   reply = replies.bad kind;
   writes = [];
@@ -233,7 +233,7 @@ answers-bad v durable kind waiting0 waiting s opened short room told = record {
 
 -- where the store is still up, the device is at rest
 pub lost-event : (v w : StoreView) (durable : State) (fault : WriteFault) (up : Bool) (old new : Moment) → IsOpen v durable old.state → old.reads ≤ new.reads → Survives v [] durable old.state new.state
-    → (up ≡ true → Goes v [] w durable old.state new.state) → (up ≡ false → fault ≡ faults.Device) → ((b : ℕ) → fault ≡ faults.Damaged b → ⊥) → Lost v durable (round_fault_of fault) old new
+    → (up ≡ true → Goes v [] w durable old.state new.state) → (up ≡ false → fault ≡ faults.Device) → ((b : ℕ) → fault ≡ faults.Damaged b → ⊥) → CommandFailed v durable (round_fault_of fault) old new
 lost-event v w durable faults.Device up old new opened later survives goes down sound = record { lost = tt; survives = survives; rests = λ is. absurd (cc); counts = counts-quiet durable old new opened.rest.image opened.rest.tells survives later }
 lost-event v w durable (faults.Damaged b) up old new opened later survives goes down sound = absurd (sound b refl)
 lost-event v w durable faults.NoMemory false old new opened later survives goes down sound = let never = down refl in absurd (cc)

@@ -21,8 +21,8 @@ use Rattle.lt_store.specs.Promise.{AtRest}
 use Rattle.lt_store.proofs.GoLaws.{open-rests}
 use Rattle.lt_serve.specs.declared.served.Served.{Served}
 use Rattle.lt_serve.specs.declared.served.Served.TheVariants as served
-use Rattle.lt_serve.specs.Promise.{IsPause, IsInnerHalt, Moment, Runs, acknowledged, ShowsFirst, Over}
-use Rattle.lt_serve.specs.Serving.{Reached}
+use Rattle.lt_serve.specs.Promise.{IsPause, IsInnerHalt, Moment, Runs, acknowledged, ShowsFirst, ServingEnded}
+use Rattle.lt_serve.specs.Serving.{ServedSoFar}
 use Rattle.lt_serve.proofs.CountLaws.{counts-bad}
 use Rattle.lt_serve.proofs.RunLaws.{runs-more, runs-length, runs-counts, texts-append}
 use Rattle.lt_serve.proofs.ShownLaws.{acknowledged-append}
@@ -83,7 +83,7 @@ pub refused-some : (rest : List ℕ) → (rest ≡ [] → ⊥) → refused_rest 
 refused-some [] some = absurd (some refl)
 refused-some (b ∷ rest) some = refl
 
-module _ (e : ℕ) (before : State) (input output kept : List ℕ) (w : StoreView) (start now : Moment) (r : Reached e before input output kept w start now) where
+module _ (e : ℕ) (before : State) (input output kept : List ℕ) (w : StoreView) (start now : Moment) (r : ServedSoFar e before input output kept w start now) where
   -- every reply that is acknowledged tells of a durable write
   reached-sure : acknowledged r.replies (length output) ≤ length r.writes
   reached-sure =
@@ -102,7 +102,7 @@ module _ (e : ℕ) (before : State) (input output kept : List ℕ) (w : StoreVie
   reached-rests = open-rests w (after_writes before r.writes) now.state r.opened
 
   -- between two lines
-  pub over-paused : (status : Served) (faults0 faults : ℕ) → (status ≡ served.Done → ⊥) → Over e before status input output faults0 faults start now
+  pub over-paused : (status : Served) (faults0 faults : ℕ) → (status ≡ served.Done → ⊥) → ServingEnded e before status input output faults0 faults start now
   over-paused status faults0 faults other = record {
     acted = commands input;
     others = refused_rest (rest_of input);
@@ -125,7 +125,7 @@ module _ (e : ℕ) (before : State) (input output kept : List ℕ) (w : StoreVie
   }
 
   -- at the end of input, where no byte is left unfinished
-  pub over-done : (faults0 faults : ℕ) → rest_of input ≡ [] → Over e before served.Done input output faults0 faults start now
+  pub over-done : (faults0 faults : ℕ) → rest_of input ≡ [] → ServingEnded e before served.Done input output faults0 faults start now
   over-done faults0 faults none = record {
     acted = commands input;
     others = [];
@@ -148,7 +148,7 @@ module _ (e : ℕ) (before : State) (input output kept : List ℕ) (w : StoreVie
   }
 
   -- at the end of input, where the rest was refused, and this much of the refusal is shown
-  pub over-rest : (status : Served) (faults0 faults : ℕ) (added behind : List ℕ) → (rest_of input ≡ [] → ⊥) → text (replies.bad End) ≡ added ++ behind → (status ≡ served.Done → behind ≡ []) → (IsPause status → ⊥) → (IsInnerHalt status → ⊥) → Over e before status input (output ++ added) faults0 faults start now
+  pub over-rest : (status : Served) (faults0 faults : ℕ) (added behind : List ℕ) → (rest_of input ≡ [] → ⊥) → text (replies.bad End) ≡ added ++ behind → (status ≡ served.Done → behind ≡ []) → (IsPause status → ⊥) → (IsInnerHalt status → ⊥) → ServingEnded e before status input (output ++ added) faults0 faults start now
   over-rest status faults0 faults added behind some said all pause inner =
       let last : List Reply = replies.bad End ∷ [] in
       let whole : texts (r.replies ++ last) ≡ (output ++ added) ++ behind = texts-append r.replies last ∙ ap (λ xs. xs ++ texts last) (sym r.text) ∙ ap (λ xs. output ++ xs) (append-nil (text (replies.bad End)) ∙ said) ∙ sym (append_assoc output added behind) in

@@ -26,11 +26,11 @@ use Rattle.lt_serve.specs.declared.faults.RoundFault.TheVariants as faults
 use Rattle.lt_serve.specs.declared.served.Served.{Served}
 use Rattle.lt_serve.specs.declared.served.Served.TheVariants as served
 use Rattle.lt_serve.specs.Faults.{IsLost, IsHalt, served_of}
-use Rattle.lt_serve.specs.Promise.{IsPause, IsInnerHalt, IsSettled, Moment, Runs, StartWithOk, TellsCounts, acknowledged, Over, SteppedOver}
-use Rattle.lt_serve.specs.Rounds.{Round, Stopped}
+use Rattle.lt_serve.specs.Promise.{IsPause, IsInnerHalt, IsSettled, Moment, Runs, StartWithOk, TellsCounts, acknowledged, ServingEnded, EndedShowing}
+use Rattle.lt_serve.specs.Rounds.{RoundServed, RoundFailed}
 use Rattle.lt_serve.specs.Runs.{ok_count}
 use Rattle.lt_serve.specs.Sending.{Sends}
-use Rattle.lt_serve.specs.Serving.{Reached, SteppedOn}
+use Rattle.lt_serve.specs.Serving.{ServedSoFar, ShowedFurther}
 use Rattle.lt_serve.proofs.CountLaws.{counts-more}
 use Rattle.lt_serve.proofs.LineLaws.{commands-append, rest_of-append}
 use Rattle.lt_serve.proofs.OverLaws.{since-more, open-has, rests-later, shows, lines-answered}
@@ -64,13 +64,13 @@ pub record PieceStopped (e : ℕ) (durable : State) (bytes : List ℕ) (status :
   pub counts : TellsCounts durable (shown ++ hidden) writes old new
 
 -- the settled text of a round is that of its replies
-told-text : (e : ℕ) (s : State) (bytes kept : List ℕ) (waiting : Waiting) (w : StoreView) (old new : Moment) (p : Round e s bytes kept nothing_waits waiting w old new) → waiting.settled_text ≡ texts p.replies
+told-text : (e : ℕ) (s : State) (bytes kept : List ℕ) (waiting : Waiting) (w : StoreView) (old new : Moment) (p : RoundServed e s bytes kept nothing_waits waiting w old new) → waiting.settled_text ≡ texts p.replies
 told-text e s bytes kept waiting w old new p = ap (λ (x : Waiting). x.settled_text) p.told
 
 -- all of it was acted, and the sink failed
-pub piece-untold : (e : ℕ) (s : State) (bytes more kept : List ℕ) (waiting0 waiting unsent : Waiting) (w : StoreView) (count : ℕ) (stands0 stands : List ℕ → Type 0) (faults0 faults : ℕ) (old new : Moment) → waiting0 ≡ nothing_waits → Round e s bytes kept waiting0 waiting w old new → Sends count stands0 stands waiting unsent → PieceStopped e s (bytes ++ more) served.Sink stands0 stands faults0 faults old new
+pub piece-untold : (e : ℕ) (s : State) (bytes more kept : List ℕ) (waiting0 waiting unsent : Waiting) (w : StoreView) (count : ℕ) (stands0 stands : List ℕ → Type 0) (faults0 faults : ℕ) (old new : Moment) → waiting0 ≡ nothing_waits → RoundServed e s bytes kept waiting0 waiting w old new → Sends count stands0 stands waiting unsent → PieceStopped e s (bytes ++ more) served.Sink stands0 stands faults0 faults old new
 piece-untold e s bytes more kept waiting0 waiting unsent w count stands0 stands faults0 faults old new none round sends =
-    let p : Round e s bytes kept nothing_waits waiting w old new = subst (λ (x : Waiting). Round e s bytes kept x waiting w old new) none round in
+    let p : RoundServed e s bytes kept nothing_waits waiting w old new = subst (λ (x : Waiting). RoundServed e s bytes kept x waiting w old new) none round in
     record {
       acted = commands bytes;
       others = commands (rest_of bytes ++ more);
@@ -137,7 +137,7 @@ was-short (faults.Damaged block) same = absurd (cc (same))
 was-short faults.NoMemory same = refl
 
 -- the round failed
-pub piece-stopped : (e : ℕ) (s : State) (bytes : List ℕ) (held : HeldLine) (fault : RoundFault) (waiting0 waiting unsent : Waiting) (stands0 stands : List ℕ → Type 0) (faults0 faults : ℕ) (old new : Moment) (result : Result (Unit {0}) Failed) → waiting0.settled_text ≡ [] → Stopped e s bytes held fault waiting0 waiting.settled_text old new
+pub piece-stopped : (e : ℕ) (s : State) (bytes : List ℕ) (held : HeldLine) (fault : RoundFault) (waiting0 waiting unsent : Waiting) (stands0 stands : List ℕ → Type 0) (faults0 faults : ℕ) (old new : Moment) (result : Result (Unit {0}) Failed) → waiting0.settled_text ≡ [] → RoundFailed e s bytes held fault waiting0 waiting.settled_text old new
     → OnOk result (Sends (length waiting.settled_text) stands0 stands waiting unsent) → OnErr result ((count : ℕ) × Sends count stands0 stands waiting unsent) → HasCause faults0 faults result → PieceStopped e s bytes (served_of fault) stands0 stands faults0 faults old new
 piece-stopped e s bytes held fault waiting0 waiting unsent stands0 stands faults0 faults old new result none p all front cause =
     let t = told-of result stands0 stands faults0 faults waiting unsent all front cause in
@@ -188,9 +188,9 @@ not-pause (served.Damaged block) halt pause = halt
 not-pause served.NoMemory halt pause = pause
 not-pause served.Turns halt pause = halt
 
-module _ (e : ℕ) (before : State) (input output kept : List ℕ) (w : StoreView) (start mid : Moment) (r : Reached e before input output kept w start mid) (piece : List ℕ) where
+module _ (e : ℕ) (before : State) (input output kept : List ℕ) (w : StoreView) (start mid : Moment) (r : ServedSoFar e before input output kept w start mid) (piece : List ℕ) where
   -- it was acted
-  reached-more : (kept' : List ℕ) (waiting0 waiting : Waiting) (x : StoreView) (new : Moment) (p : Round e (after_writes before r.writes) (rest_of input ++ piece) kept' waiting0 waiting x mid new) → Reached e before (input ++ piece) (output ++ texts p.replies) kept' x start new
+  reached-more : (kept' : List ℕ) (waiting0 waiting : Waiting) (x : StoreView) (new : Moment) (p : RoundServed e (after_writes before r.writes) (rest_of input ++ piece) kept' waiting0 waiting x mid new) → ServedSoFar e before (input ++ piece) (output ++ texts p.replies) kept' x start new
   reached-more kept' waiting0 waiting x new p = record {
     replies = r.replies ++ p.replies;
     writes = r.writes ++ p.writes;
@@ -204,9 +204,9 @@ module _ (e : ℕ) (before : State) (input output kept : List ℕ) (w : StoreVie
   }
 
   -- and all of it was told
-  pub stepped-on : (kept' : List ℕ) (waiting0 waiting unsent : Waiting) (x : StoreView) (stands0 stands : List ℕ → Type 0) (new : Moment) → waiting0 ≡ nothing_waits → Round e (after_writes before r.writes) (rest_of input ++ piece) kept' waiting0 waiting x mid new → Sends (length waiting.settled_text) stands0 stands waiting unsent → SteppedOn e before (input ++ piece) output kept' x stands0 stands start new
+  pub stepped-on : (kept' : List ℕ) (waiting0 waiting unsent : Waiting) (x : StoreView) (stands0 stands : List ℕ → Type 0) (new : Moment) → waiting0 ≡ nothing_waits → RoundServed e (after_writes before r.writes) (rest_of input ++ piece) kept' waiting0 waiting x mid new → Sends (length waiting.settled_text) stands0 stands waiting unsent → ShowedFurther e before (input ++ piece) output kept' x stands0 stands start new
   stepped-on kept' waiting0 waiting unsent x stands0 stands new none round sends =
-      let p : Round e (after_writes before r.writes) (rest_of input ++ piece) kept' nothing_waits waiting x mid new = subst (λ (y : Waiting). Round e (after_writes before r.writes) (rest_of input ++ piece) kept' y waiting x mid new) none round in
+      let p : RoundServed e (after_writes before r.writes) (rest_of input ++ piece) kept' nothing_waits waiting x mid new = subst (λ (y : Waiting). RoundServed e (after_writes before r.writes) (rest_of input ++ piece) kept' y waiting x mid new) none round in
       record {
         added = texts p.replies;
         gained = subst (λ (xs : List ℕ). Gains stands0 stands xs) (take-length waiting.settled_text ∙ told-text e (after_writes before r.writes) (rest_of input ++ piece) kept' waiting x mid new p) sends.gained;
@@ -214,7 +214,7 @@ module _ (e : ℕ) (before : State) (input output kept : List ℕ) (w : StoreVie
       }
 
   -- serving stopped in it
-  over-piece : (status : Served) (stands0 stands : List ℕ → Type 0) (faults0 faults : ℕ) (new : Moment) → length piece ≤ 4096 → (p : PieceStopped e (after_writes before r.writes) (rest_of input ++ piece) status stands0 stands faults0 faults mid new) → Over e before status (input ++ piece) (output ++ p.output) faults0 faults start new
+  over-piece : (status : Served) (stands0 stands : List ℕ → Type 0) (faults0 faults : ℕ) (new : Moment) → length piece ≤ 4096 → (p : PieceStopped e (after_writes before r.writes) (rest_of input ++ piece) status stands0 stands faults0 faults mid new) → ServingEnded e before status (input ++ piece) (output ++ p.output) faults0 faults start new
   over-piece status stands0 stands faults0 faults new short p =
       let later : List Command = refused_rest (rest_of (input ++ piece)) in
       let told : List Reply = r.replies ++ p.shown in
@@ -259,13 +259,13 @@ module _ (e : ℕ) (before : State) (input output kept : List ℕ) (w : StoreVie
       }
 
   -- and some of it was told
-  pub stepped-over : (status : Served) (stands0 stands : List ℕ → Type 0) (faults0 faults : ℕ) (new : Moment) → length piece ≤ 4096 → PieceStopped e (after_writes before r.writes) (rest_of input ++ piece) status stands0 stands faults0 faults mid new → IsHalt status × SteppedOver e before status (input ++ piece) output stands0 stands faults0 faults start new
+  pub stepped-over : (status : Served) (stands0 stands : List ℕ → Type 0) (faults0 faults : ℕ) (new : Moment) → length piece ≤ 4096 → PieceStopped e (after_writes before r.writes) (rest_of input ++ piece) status stands0 stands faults0 faults mid new → IsHalt status × EndedShowing e before status (input ++ piece) output stands0 stands faults0 faults start new
   stepped-over status stands0 stands faults0 faults new short p = (p.halt, record { added = p.output; gained = p.gained; over = over-piece status stands0 stands faults0 faults new short p })
 
 -- ---- one call behind another
 
 -- counted from earlier
-over-earlier : (e : ℕ) (before : State) (status : Served) (input output : List ℕ) (first faults0 faults : ℕ) (start new : Moment) → first ≤ faults0 → Over e before status input output faults0 faults start new → Over e before status input output first faults start new
+over-earlier : (e : ℕ) (before : State) (status : Served) (input output : List ℕ) (first faults0 faults : ℕ) (start new : Moment) → first ≤ faults0 → ServingEnded e before status input output faults0 faults start new → ServingEnded e before status input output first faults start new
 over-earlier e before status input output first faults0 faults start new le o = record {
   acted = o.acted;
   others = o.others;
@@ -288,38 +288,38 @@ over-earlier e before status input output first faults0 faults start new le o = 
 }
 
 -- nothing was stepped yet
-pub on-none : (e : ℕ) (before : State) (input output kept : List ℕ) (w : StoreView) (stands : List ℕ → Type 0) (start now : Moment) → Reached e before input output kept w start now → SteppedOn e before input output kept w stands stands start now
+pub on-none : (e : ℕ) (before : State) (input output kept : List ℕ) (w : StoreView) (stands : List ℕ → Type 0) (start now : Moment) → ServedSoFar e before input output kept w start now → ShowedFurther e before input output kept w stands stands start now
 on-none e before input output kept w stands start now r = record {
   added = [];
   gained = Gains-none stands;
-  reached = subst (λ (xs : List ℕ). Reached e before input xs kept w start now) (sym (append-nil output)) r;
+  reached = subst (λ (xs : List ℕ). ServedSoFar e before input xs kept w start now) (sym (append-nil output)) r;
 }
 
-module _ (e : ℕ) (before : State) (input output kept : List ℕ) (w : StoreView) (stands0 stands1 : List ℕ → Type 0) (start mid : Moment) (s : SteppedOn e before input output kept w stands0 stands1 start mid) where
+module _ (e : ℕ) (before : State) (input output kept : List ℕ) (w : StoreView) (stands0 stands1 : List ℕ → Type 0) (start mid : Moment) (s : ShowedFurther e before input output kept w stands0 stands1 start mid) where
   -- serving is over in a call more
-  pub over-over : (status : Served) (input' : List ℕ) (stands : List ℕ → Type 0) (first faults0 faults : ℕ) (new : Moment) → first ≤ faults0 → SteppedOver e before status input' (output ++ s.added) stands1 stands faults0 faults start new → SteppedOver e before status input' output stands0 stands first faults start new
+  pub over-over : (status : Served) (input' : List ℕ) (stands : List ℕ → Type 0) (first faults0 faults : ℕ) (new : Moment) → first ≤ faults0 → EndedShowing e before status input' (output ++ s.added) stands1 stands faults0 faults start new → EndedShowing e before status input' output stands0 stands first faults start new
   over-over status input' stands first faults0 faults new le u = record {
     added = s.added ++ u.added;
     gained = Gains-more stands0 stands1 stands s.added u.added s.gained u.gained;
-    over = over-earlier e before status input' (output ++ (s.added ++ u.added)) first faults0 faults start new le (subst (λ (xs : List ℕ). Over e before status input' xs faults0 faults start new) (append_assoc output s.added u.added) u.over);
+    over = over-earlier e before status input' (output ++ (s.added ++ u.added)) first faults0 faults start new le (subst (λ (xs : List ℕ). ServingEnded e before status input' xs faults0 faults start new) (append_assoc output s.added u.added) u.over);
   }
 
   module _ (f : ℕ) (same : f ≡ e) where
     -- a call of a store with as many extents goes on
-    pub on-on : (input' kept' : List ℕ) (x : StoreView) (stands : List ℕ → Type 0) (new : Moment) → (Reached f before input (output ++ s.added) kept w start mid → SteppedOn f before input' (output ++ s.added) kept' x stands1 stands start new) → SteppedOn e before input' output kept' x stands0 stands start new
+    pub on-on : (input' kept' : List ℕ) (x : StoreView) (stands : List ℕ → Type 0) (new : Moment) → (ServedSoFar f before input (output ++ s.added) kept w start mid → ShowedFurther f before input' (output ++ s.added) kept' x stands1 stands start new) → ShowedFurther e before input' output kept' x stands0 stands start new
     on-on input' kept' x stands new call =
-        let u : SteppedOn e before input' (output ++ s.added) kept' x stands1 stands start new = subst (λ (n : ℕ). SteppedOn n before input' (output ++ s.added) kept' x stands1 stands start new) same (call (subst (λ (n : ℕ). Reached n before input (output ++ s.added) kept w start mid) (sym same) s.reached)) in
+        let u : ShowedFurther e before input' (output ++ s.added) kept' x stands1 stands start new = subst (λ (n : ℕ). ShowedFurther n before input' (output ++ s.added) kept' x stands1 stands start new) same (call (subst (λ (n : ℕ). ServedSoFar n before input (output ++ s.added) kept w start mid) (sym same) s.reached)) in
         record {
           added = s.added ++ u.added;
           gained = Gains-more stands0 stands1 stands s.added u.added s.gained u.gained;
-          reached = subst (λ (xs : List ℕ). Reached e before input' xs kept' x start new) (append_assoc output s.added u.added) u.reached;
+          reached = subst (λ (xs : List ℕ). ServedSoFar e before input' xs kept' x start new) (append_assoc output s.added u.added) u.reached;
         }
 
     -- or serving is over in it
-    pub on-over : (status : Served) (input' : List ℕ) (stands : List ℕ → Type 0) (first faults0 faults : ℕ) (new : Moment) → first ≤ faults0 → (Reached f before input (output ++ s.added) kept w start mid → IsHalt status × SteppedOver f before status input' (output ++ s.added) stands1 stands faults0 faults start new) → IsHalt status × SteppedOver e before status input' output stands0 stands first faults start new
+    pub on-over : (status : Served) (input' : List ℕ) (stands : List ℕ → Type 0) (first faults0 faults : ℕ) (new : Moment) → first ≤ faults0 → (ServedSoFar f before input (output ++ s.added) kept w start mid → IsHalt status × EndedShowing f before status input' (output ++ s.added) stands1 stands faults0 faults start new) → IsHalt status × EndedShowing e before status input' output stands0 stands first faults start new
     on-over status input' stands first faults0 faults new le call =
-        let both = call (subst (λ (n : ℕ). Reached n before input (output ++ s.added) kept w start mid) (sym same) s.reached) in
-        (both.0, over-over status input' stands first faults0 faults new le (subst (λ (n : ℕ). SteppedOver n before status input' (output ++ s.added) stands1 stands faults0 faults start new) same both.1))
+        let both = call (subst (λ (n : ℕ). ServedSoFar n before input (output ++ s.added) kept w start mid) (sym same) s.reached) in
+        (both.0, over-over status input' stands first faults0 faults new le (subst (λ (n : ℕ). EndedShowing n before status input' (output ++ s.added) stands1 stands faults0 faults start new) same both.1))
 
 -- what holds of the fault of a call holds of the answer that passes it on
 pub at-exit : {T E : Type 0} (result : Result T E) (fault : E) (P : E → Type 0) → IsErrAnd result (λ other. other ≡ fault) → P fault → IfErr result P

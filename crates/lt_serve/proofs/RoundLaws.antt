@@ -21,18 +21,15 @@ use Rattle.lt_store.specs.Promise.{AtRest}
 use Rattle.lt_store.proofs.GoLaws.{goes-none, goes-behind, breaks-behind, goes-state}
 use Rattle.lt_serve.specs.declared.faults.RoundFault.{RoundFault}
 use Rattle.lt_serve.specs.declared.faults.RoundFault.TheVariants as faults
-use Rattle.lt_serve.specs.Acting.{Answered, Answers, Lost, settled_unless}
-use Rattle.lt_serve.specs.Rounds.{AtCommit, AtLine, Round, Stopped, Went, all_text}
+use Rattle.lt_serve.specs.Acting.{LineAnswered, CommandAnswered, CommandFailed, settled_unless}
+use Rattle.lt_serve.specs.Rounds.{FailedAtCommit, FailedAtLine, RoundServed, RoundFailed, LinesActed, all_text}
 use Rattle.lt_serve.specs.Runs.{ok_count}
 use Rattle.lt_serve.specs.Promise.{Moment, Runs, StartWithOk, TellsCounts, is_ok}
 use Rattle.lt_serve.proofs.CountLaws.{counts-line, counts-none, counts-quiet, counts-still}
 use Rattle.lt_serve.proofs.LineLaws.{commands-append, commands-unbroken, commands-ended, lines-ended, rest_of-unbroken, rest_of-ended}
-use Rattle.lt_serve.proofs.RunLaws.{ok_count-append, ok_count-cons, runs-more, runs-none, runs-oks, texts-append}
+use Rattle.lt_serve.proofs.RunLaws.{ok_count-append, ok_count-cons, runs-more, runs-none, runs-oks, texts-append, texts-more}
 
 -- ---- replies that wait
-
-texts-more : (rs : List Reply) (r : Reply) → texts (rs ++ r ∷ []) ≡ texts rs ++ text r
-texts-more rs r = texts-append rs (r ∷ []) ∙ ap (λ xs. texts rs ++ xs) (append-nil (text r))
 
 texts-length : (rs : List Reply) (r : Reply) → length (texts (rs ++ r ∷ [])) ≡ length (texts rs) + length (text r)
 texts-length rs r = ap length (texts-more rs r) ∙ length-append (texts rs) (text r)
@@ -86,7 +83,7 @@ still-idle v w durable writes old new goes idle none = goes.pending ∙ ap (λ x
 -- ---- acting goes on
 
 -- nothing was taken yet
-pub went-none : (v : StoreView) (durable : State) (rest kept : List ℕ) (waiting : Waiting) (s : Moment) → IsOpen v durable s.state → IsFalse (has_line_feed rest) → kept ≡ kept_of rest → waiting.pending_text ≡ [] → Went v durable rest kept false waiting waiting v s s
+pub went-none : (v : StoreView) (durable : State) (rest kept : List ℕ) (waiting : Waiting) (s : Moment) → IsOpen v durable s.state → IsFalse (has_line_feed rest) → kept ≡ kept_of rest → waiting.pending_text ≡ [] → LinesActed v durable rest kept false waiting waiting v s s
 went-none v durable rest kept waiting s opened free line none = record {
   shown = [];
   hidden = [];
@@ -106,8 +103,8 @@ went-none v durable rest kept waiting s opened free line none = record {
 }
 
 -- the unfinished line goes on
-pub went-on : (v : StoreView) (durable : State) (bytes chunk kept kept' : List ℕ) (wrote : Bool) (waiting0 waiting : Waiting) (w : StoreView) (old new : Moment) → Went v durable bytes kept wrote waiting0 waiting w old new
-    → IsFalse (has_line_feed chunk) → kept' ≡ kept_of (kept ++ chunk) → Went v durable (bytes ++ chunk) kept' wrote waiting0 waiting w old new
+pub went-on : (v : StoreView) (durable : State) (bytes chunk kept kept' : List ℕ) (wrote : Bool) (waiting0 waiting : Waiting) (w : StoreView) (old new : Moment) → LinesActed v durable bytes kept wrote waiting0 waiting w old new
+    → IsFalse (has_line_feed chunk) → kept' ≡ kept_of (kept ++ chunk) → LinesActed v durable (bytes ++ chunk) kept' wrote waiting0 waiting w old new
 went-on v durable bytes chunk kept kept' wrote waiting0 waiting w old new went free more = record {
   shown = went.shown;
   hidden = went.hidden;
@@ -127,20 +124,20 @@ went-on v durable bytes chunk kept kept' wrote waiting0 waiting w old new went f
 }
 
 -- what is kept of the line that ends here
-pub kept-line : (v : StoreView) (durable : State) (bytes chunk kept kept' : List ℕ) (wrote : Bool) (waiting0 waiting : Waiting) (w : StoreView) (old new : Moment) → Went v durable bytes kept wrote waiting0 waiting w old new
+pub kept-line : (v : StoreView) (durable : State) (bytes chunk kept kept' : List ℕ) (wrote : Bool) (waiting0 waiting : Waiting) (w : StoreView) (old new : Moment) → LinesActed v durable bytes kept wrote waiting0 waiting w old new
     → kept' ≡ kept_of (kept ++ chunk) → kept' ≡ kept_of (rest_of bytes ++ chunk)
 kept-line v durable bytes chunk kept kept' wrote waiting0 waiting w old new went more = more ∙ ap (λ k. kept_of (k ++ chunk)) went.line ∙ kept_of-append (rest_of bytes) chunk
 
-module _ (v : StoreView) (durable : State) (bytes chunk kept : List ℕ) (wrote0 : Bool) (waiting0 waiting : Waiting) (w : StoreView) (old mid : Moment) (went : Went v durable bytes kept wrote0 waiting0 waiting w old mid)
+module _ (v : StoreView) (durable : State) (bytes chunk kept : List ℕ) (wrote0 : Bool) (waiting0 waiting : Waiting) (w : StoreView) (old mid : Moment) (went : LinesActed v durable bytes kept wrote0 waiting0 waiting w old mid)
     (opened : IsOpen v durable old.state) (free : IsFalse (has_line_feed chunk)) (waiting' : Waiting) (x : StoreView) (new : Moment) where
   now : State
   now = after_writes durable (take went.goes.sure (v.log.pending ++ went.writes))
 
   abbrev Line : Bool → Type 0
-  Line wrote = Answered w now (command_of (rest_of bytes ++ chunk)) wrote0 wrote waiting waiting' x mid new
+  Line wrote = LineAnswered w now (command_of (rest_of bytes ++ chunk)) wrote0 wrote waiting waiting' x mid new
 
   abbrev Further : Bool → Type 0
-  Further wrote = Went v durable (bytes ++ (chunk ++ line_feed ∷ [])) [] wrote waiting0 waiting' x old new
+  Further wrote = LinesActed v durable (bytes ++ (chunk ++ line_feed ∷ [])) [] wrote waiting0 waiting' x old new
 
   runs-further : (wrote : Bool) (a : Line wrote) → extents_of w ≡ extents_of v → Runs (extents_of v) (state_of v durable) (commands (bytes ++ (chunk ++ line_feed ∷ []))) ((went.shown ++ went.hidden) ++ a.reply ∷ []) (went.writes ++ a.writes)
   unfolding now
@@ -239,14 +236,14 @@ module _ (v : StoreView) (durable : State) (bytes chunk kept : List ℕ) (wrote0
   either true before was a is same = further-hidden a (ap (λ b. b || is_ok a.reply) (sym was) ∙ sym is) same
 
   -- a line ended, and was answered
-  pub went-line : (wrote : Bool) → Answered w (after_writes durable (take went.goes.sure (v.log.pending ++ went.writes))) (command_of (rest_of bytes ++ chunk)) wrote0 wrote waiting waiting' x mid new → extents_of w ≡ extents_of v
-      → Went v durable (bytes ++ (chunk ++ line_feed ∷ [])) [] wrote waiting0 waiting' x old new
+  pub went-line : (wrote : Bool) → LineAnswered w (after_writes durable (take went.goes.sure (v.log.pending ++ went.writes))) (command_of (rest_of bytes ++ chunk)) wrote0 wrote waiting waiting' x mid new → extents_of w ≡ extents_of v
+      → LinesActed v durable (bytes ++ (chunk ++ line_feed ∷ [])) [] wrote waiting0 waiting' x old new
   unfolding now
   went-line wrote a same = either wrote wrote0 refl a a.wrote_is same
 
 -- ---- a commit, and a fault
 
-module _ (v : StoreView) (durable : State) (bytes kept : List ℕ) (wrote : Bool) (waiting0 waiting : Waiting) (w : StoreView) (old mid : Moment) (went : Went v durable bytes kept wrote waiting0 waiting w old mid) (nothing : v.log.pending ≡ []) where
+module _ (v : StoreView) (durable : State) (bytes kept : List ℕ) (wrote : Bool) (waiting0 waiting : Waiting) (w : StoreView) (old mid : Moment) (went : LinesActed v durable bytes kept wrote waiting0 waiting w old mid) (nothing : v.log.pending ≡ []) where
   all_are : v.log.pending ++ went.writes ≡ went.writes
   all_are = ap (λ xs. xs ++ went.writes) nothing
 
@@ -268,9 +265,9 @@ module _ (v : StoreView) (durable : State) (bytes kept : List ℕ) (wrote : Bool
   long = ap length joined ∙ length-append (texts went.shown) (texts went.hidden)
 
   -- what follows these bytes was not acted
-  stopped : (all settled : List ℕ) (held : HeldLine) (fault : RoundFault) (new : Moment) → Lost w (after_writes durable (take went.goes.sure (v.log.pending ++ went.writes))) fault mid new → settled ≡ waiting.settled_text
-      → (held.is_ended ≡ true → AtLine all held.kept (commands bytes)) → (held.is_ended ≡ false → AtCommit all held.kept (commands bytes) (waiting0.room - length (texts (went.shown ++ went.hidden))))
-      → Stopped (extents_of v) durable all held fault waiting0 settled old new
+  stopped : (all settled : List ℕ) (held : HeldLine) (fault : RoundFault) (new : Moment) → CommandFailed w (after_writes durable (take went.goes.sure (v.log.pending ++ went.writes))) fault mid new → settled ≡ waiting.settled_text
+      → (held.is_ended ≡ true → FailedAtLine all held.kept (commands bytes)) → (held.is_ended ≡ false → FailedAtCommit all held.kept (commands bytes) (waiting0.room - length (texts (went.shown ++ went.hidden))))
+      → RoundFailed (extents_of v) durable all held fault waiting0 settled old new
   stopped all settled held fault new lost is at_line at_commit = record {
     acted = commands bytes;
     shown = went.shown;
@@ -290,8 +287,8 @@ module _ (v : StoreView) (durable : State) (bytes kept : List ℕ) (wrote : Bool
   }
 
   -- the event of the line that ended failed
-  pub stopped-line : (chunk more settled : List ℕ) (held : HeldLine) (fault : RoundFault) (new : Moment) → Lost w (after_writes durable (take went.goes.sure (v.log.pending ++ went.writes))) fault mid new → settled ≡ waiting.settled_text
-      → IsFalse (has_line_feed chunk) → held.is_ended ≡ true → held.kept ≡ kept_of (kept ++ chunk) → Stopped (extents_of v) durable (bytes ++ ((chunk ++ line_feed ∷ []) ++ more)) held fault waiting0 settled old new
+  pub stopped-line : (chunk more settled : List ℕ) (held : HeldLine) (fault : RoundFault) (new : Moment) → CommandFailed w (after_writes durable (take went.goes.sure (v.log.pending ++ went.writes))) fault mid new → settled ≡ waiting.settled_text
+      → IsFalse (has_line_feed chunk) → held.is_ended ≡ true → held.kept ≡ kept_of (kept ++ chunk) → RoundFailed (extents_of v) durable (bytes ++ ((chunk ++ line_feed ∷ []) ++ more)) held fault waiting0 settled old new
   stopped-line chunk more settled held fault new lost is free ended kept_is = stopped (bytes ++ ((chunk ++ line_feed ∷ []) ++ more)) settled held fault new lost is
       (λ same. record {
         before = lines_of bytes;
@@ -304,8 +301,8 @@ module _ (v : StoreView) (durable : State) (bytes kept : List ℕ) (wrote : Bool
       (λ not. absurd (false≢true (sym not ∙ ended)))
 
   -- the commit failed
-  pub stopped-commit : (more settled : List ℕ) (held : HeldLine) (fault : RoundFault) (new : Moment) → Lost w (after_writes durable (take went.goes.sure (v.log.pending ++ went.writes))) fault mid new → settled ≡ waiting.settled_text
-      → held.is_ended ≡ false → held.kept ≡ kept → (more ≢ [] → waiting.room < 3007) → Stopped (extents_of v) durable (bytes ++ more) held fault waiting0 settled old new
+  pub stopped-commit : (more settled : List ℕ) (held : HeldLine) (fault : RoundFault) (new : Moment) → CommandFailed w (after_writes durable (take went.goes.sure (v.log.pending ++ went.writes))) fault mid new → settled ≡ waiting.settled_text
+      → held.is_ended ≡ false → held.kept ≡ kept → (more ≢ [] → waiting.room < 3007) → RoundFailed (extents_of v) durable (bytes ++ more) held fault waiting0 settled old new
   stopped-commit more settled held fault new lost is open_line kept_is short = stopped (bytes ++ more) settled held fault new lost is
       (λ ended. absurd (false≢true (sym open_line ∙ ended)))
       (λ same. record {
@@ -319,7 +316,7 @@ module _ (v : StoreView) (durable : State) (bytes kept : List ℕ) (wrote : Bool
 
   -- all writes are durable, and the replies are settled
   pub round-after : (x : StoreView) (new : Moment) → Goes w [] x (after_writes durable (take went.goes.sure (v.log.pending ++ went.writes))) mid.state new.state → (w.log.pending ≡ [] → new.state ≡ mid.state) → mid.reads ≤ new.reads → x.log.pending ≡ []
-      → (first settled : Waiting) → waiting0 ≡ all_settled first → settled ≡ all_settled waiting → Round (extents_of v) durable bytes kept first settled x old new
+      → (first settled : Waiting) → waiting0 ≡ all_settled first → settled ≡ all_settled waiting → RoundServed (extents_of v) durable bytes kept first settled x old new
   round-after x new commit idle later none first settled begun is =
       let g = goes-behind v w went.writes durable old.state mid.state went.goes x [] new.state commit in
       let given : List Item = v.log.pending ++ (went.writes ++ []) in
@@ -344,33 +341,33 @@ module _ (v : StoreView) (durable : State) (bytes kept : List ℕ) (wrote : Bool
       }
 
 -- the lines that were acted are the first of all
-line-order : (bytes kept : List ℕ) (acted : List Command) → AtLine bytes kept acted → (others : List Command) × (acted ++ others ≡ commands bytes)
+line-order : (bytes kept : List ℕ) (acted : List Command) → FailedAtLine bytes kept acted → (others : List Command) × (acted ++ others ≡ commands bytes)
 line-order bytes kept acted a = (
   map command_of (a.line ∷ a.after),
   ap (λ cs. cs ++ map command_of (a.line ∷ a.after)) a.acted_are ∙ sym (map-append command_of a.before (a.line ∷ a.after)) ∙ ap (map command_of) (sym a.lines),
 )
 
-commit-order : (bytes kept : List ℕ) (acted : List Command) (left : ℕ) → AtCommit bytes kept acted left → (others : List Command) × (acted ++ others ≡ commands bytes)
+commit-order : (bytes kept : List ℕ) (acted : List Command) (left : ℕ) → FailedAtCommit bytes kept acted left → (others : List Command) × (acted ++ others ≡ commands bytes)
 commit-order bytes kept acted left a = (
   commands (rest_of a.taken ++ a.rest),
   ap (λ cs. cs ++ commands (rest_of a.taken ++ a.rest)) a.acted_are ∙ sym (commands-append a.taken a.rest) ∙ ap commands (sym a.split),
 )
 
-pub stopped-order : (e : ℕ) (durable : State) (bytes : List ℕ) (held : HeldLine) (fault : RoundFault) (waiting0 : Waiting) (settled : List ℕ) (old new : Moment) → (p : Stopped e durable bytes held fault waiting0 settled old new) → (others : List Command) × (p.acted ++ others ≡ commands bytes)
+pub stopped-order : (e : ℕ) (durable : State) (bytes : List ℕ) (held : HeldLine) (fault : RoundFault) (waiting0 : Waiting) (settled : List ℕ) (old new : Moment) → (p : RoundFailed e durable bytes held fault waiting0 settled old new) → (others : List Command) × (p.acted ++ others ≡ commands bytes)
 stopped-order e durable bytes held fault waiting0 settled old new p = elim (cases_Bool held.is_ended) [
   | inl ended ↦ line-order bytes held.kept p.acted (p.at_line ended)
   | inr open_line ↦ commit-order bytes held.kept p.acted (waiting0.room - length (texts (p.shown ++ p.hidden))) (p.at_commit open_line)
 ]
 
 -- a commit that failed
-pub lost-commit : (w : StoreView) (durable : State) (old new : Moment) → IsOpen w durable old.state → old.reads ≤ new.reads → Survives w [] durable old.state new.state → Lost w durable faults.Device old new
+pub lost-commit : (w : StoreView) (durable : State) (old new : Moment) → IsOpen w durable old.state → old.reads ≤ new.reads → Survives w [] durable old.state new.state → CommandFailed w durable faults.Device old new
 lost-commit w durable old new opened later survives = record { lost = tt; survives = survives; rests = λ is. absurd (cc); counts = counts-quiet durable old new opened.rest.image opened.rest.tells survives later }
 
 -- ---- a line
 
 -- a line's command was acted, and its reply is settled as long as no write was taken
-pub answered-line : (v w : StoreView) (durable : State) (command : Command) (wrote0 wrote taken : Bool) (waiting0 waiting waiting' : Waiting) (old new : Moment) → Answers v durable command taken waiting0 waiting w old new
-    → wrote ≡ (wrote0 || taken) → waiting' ≡ settled_unless wrote waiting → Answered v durable command wrote0 wrote waiting0 waiting' w old new
+pub answered-line : (v w : StoreView) (durable : State) (command : Command) (wrote0 wrote taken : Bool) (waiting0 waiting waiting' : Waiting) (old new : Moment) → CommandAnswered v durable command taken waiting0 waiting w old new
+    → wrote ≡ (wrote0 || taken) → waiting' ≡ settled_unless wrote waiting → LineAnswered v durable command wrote0 wrote waiting0 waiting' w old new
 answered-line v w durable command wrote0 wrote taken waiting0 waiting waiting' old new a is settled = record {
   reply = a.reply;
   writes = a.writes;

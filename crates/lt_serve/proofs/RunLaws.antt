@@ -1,5 +1,5 @@
 -- Runs of the map machine, one after another.
-use Rattle.std.proofs.Common.{◌≡◌, ℕ, suc, ◌+◌, ◌≤◌, refl, sym, ap, subst, ◌∙◌, List, [], ◌∷◌, ◌++◌, length, append_assoc, length-append, false, cond, Option, Some, None, arith}
+use Rattle.std.proofs.Common.{◌≡◌, ℕ, suc, ◌+◌, ◌≤◌, refl, sym, ap, subst, ◌∙◌, List, [], ◌∷◌, ◌++◌, length, append_assoc, append-nil, length-append, false, cond, Option, Some, None, arith}
 use Rattle.std.proofs.lemmas.List.Sums.{sum_by-cons, sum_by-append}
 use Rattle.lt_terms.specs.Items.{Item, value_at}
 use Rattle.lt_language.specs.Commands.{Command, put, delete, get, stat, bad}
@@ -109,3 +109,6 @@ runs-counts e s cs rs ws runs = omega (arith, runs-oks e s cs rs ws runs)
 pub texts-append : (xs ys : List Reply) → texts (xs ++ ys) ≡ texts xs ++ texts ys
 texts-append [] ys = refl
 texts-append (x ∷ xs) ys = ap (λ rest. text x ++ rest) (texts-append xs ys) ∙ sym (append_assoc (text x) (texts xs) (texts ys))
+
+pub texts-more : (rs : List Reply) (r : Reply) → texts (rs ++ r ∷ []) ≡ texts rs ++ text r
+texts-more rs r = texts-append rs (r ∷ []) ∙ ap (λ xs. texts rs ++ xs) (append-nil (text r))

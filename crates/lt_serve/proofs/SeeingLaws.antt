@@ -26,7 +26,7 @@ use Rattle.lt_serve.specs.Promise.{AreSeen, BeginsWithOk, IsSeenReply, Sight, St
 use Rattle.lt_serve.specs.Rounds.{all_text}
 use Rattle.lt_serve.specs.Seeing.{FailsSeen, IsStill, Sees, SeesLines, StaysBehind, StopsAt, Tells}
 use Rattle.lt_serve.proofs.LineLaws.{commands-append, commands-unbroken, commands-ended, lines-ended, rest_of-unbroken, rest_of-ended}
-use Rattle.lt_serve.proofs.RunLaws.{found-not, texts-append}
+use Rattle.lt_serve.proofs.RunLaws.{found-not, texts-append, texts-more}
 
 -- ---- replies that tell what is seen
 
@@ -137,9 +137,6 @@ sees-on v image bytes chunk kept kept' wrote waiting0 waiting w old new s free m
   some = s.some;
 }
 
-texts-one : (rs : List Reply) (r : Reply) → texts (rs ++ r ∷ []) ≡ texts rs ++ text r
-texts-one rs r = texts-append rs (r ∷ []) ∙ ap (λ xs. texts rs ++ xs) (append-nil (text r))
-
 module _ (v : StoreView) (image : Image) (bytes chunk kept : List ℕ) (waiting0 waiting : Waiting) (w : StoreView) (old mid : told.State) (free : IsFalse (has_line_feed chunk)) (waiting' : Waiting) (x : StoreView) (new : told.State) where
   abbrev Before : Bool → Type 0
   Before wrote = Sees v image bytes kept wrote waiting0 waiting w old mid
@@ -200,7 +197,7 @@ module _ (v : StoreView) (image : Image) (bytes chunk kept : List ℕ) (waiting0
     answers = are-append (seen_of v image) s.acted (command ∷ []) s.replies (reply ∷ []) s.answers (seen, tt);
     line = line-behind;
     settled = ap (λ (t : Waiting). t.settled_text) is ∙ ap (λ p. waiting.settled_text ++ (p ++ text reply)) (s.none refl).1 ∙ ap (λ t. t ++ text reply) s.settled
-        ∙ append_assoc waiting0.settled_text (texts s.replies) (text reply) ∙ ap (λ t. waiting0.settled_text ++ t) (sym (texts-one s.replies reply));
+        ∙ append_assoc waiting0.settled_text (texts s.replies) (text reply) ∙ ap (λ t. waiting0.settled_text ++ t) (sym (texts-more s.replies reply));
     none = λ not. (refl, ap (λ (t : Waiting). t.pending_text) is, still);
     some = λ yes. absurd (false≢true yes);
   }

@@ -26,11 +26,11 @@ use Rattle.lt_store.specs.Promise.{AtRest, StopsOpening}
 use Rattle.lt_store.specs.Open.{StoreView, IsOpen}
 use Rattle.lt_serve.specs.declared.served.Served.{Served}
 use Rattle.lt_serve.specs.declared.served.Served.TheVariants as served
-use Rattle.lt_serve.specs.Promise.{FailsToOpen, IsUnopened, IsSound, Moment, acknowledged, Over, SteppedOver, TurnedOver}
+use Rattle.lt_serve.specs.Promise.{FailsToOpen, IsUnopened, IsSound, Moment, acknowledged, ServingEnded, EndedShowing, EndedTaking}
 use Rattle.lt_serve.specs.Ends.{with_end}
 use Rattle.lt_serve.specs.Faults.{IsEnd, IsHalt, unopened_of}
 use Rattle.lt_serve.specs.Sending.{Sends}
-use Rattle.lt_serve.specs.Serving.{Reached, SteppedOn, TurnedOn}
+use Rattle.lt_serve.specs.Serving.{ServedSoFar, ShowedFurther, TookFurther}
 use Rattle.lt_serve.proofs.CountLaws.{counts-earlier, counts-none}
 use Rattle.lt_serve.proofs.OverLaws.{over-paused, over-done, over-rest}
 use Rattle.lt_serve.proofs.PieceLaws.{on-none, on-on, over-over}
@@ -44,11 +44,11 @@ none-of zero = refl
 none-of (suc n) = refl
 
 -- nothing more is shown
-no-more : (e : ℕ) (before : State) (status : Served) (input output : List ℕ) (faults0 faults : ℕ) (start now : Moment) → Over e before status input output faults0 faults start now → Over e before status input (output ++ []) faults0 faults start now
-no-more e before status input output faults0 faults start now over = subst (λ (shown : List ℕ). Over e before status input shown faults0 faults start now) (sym (append-nil output)) over
+no-more : (e : ℕ) (before : State) (status : Served) (input output : List ℕ) (faults0 faults : ℕ) (start now : Moment) → ServingEnded e before status input output faults0 faults start now → ServingEnded e before status input (output ++ []) faults0 faults start now
+no-more e before status input output faults0 faults start now over = subst (λ (shown : List ℕ). ServingEnded e before status input shown faults0 faults start now) (sym (append-nil output)) over
 
 -- all that waits is given to the sink
-pub finished-told : (e : ℕ) (before : State) (input output kept : List ℕ) (w : StoreView) (start now : Moment) → Reached e before input output kept w start now → (waiting unsent : Waiting) (stands0 stands : List ℕ → Type 0) (faults0 faults : ℕ) → waiting ≡ all_settled (with_end kept nothing_waits) → Sends (length waiting.settled_text) stands0 stands waiting unsent → SteppedOver e before served.Done input output stands0 stands faults0 faults start now
+pub finished-told : (e : ℕ) (before : State) (input output kept : List ℕ) (w : StoreView) (start now : Moment) → ServedSoFar e before input output kept w start now → (waiting unsent : Waiting) (stands0 stands : List ℕ → Type 0) (faults0 faults : ℕ) → waiting ≡ all_settled (with_end kept nothing_waits) → Sends (length waiting.settled_text) stands0 stands waiting unsent → EndedShowing e before served.Done input output stands0 stands faults0 faults start now
 finished-told e before input output [] w start now r waiting unsent stands0 stands faults0 faults is sends =
     let said : take (length waiting.settled_text) waiting.settled_text ≡ [] = take-length waiting.settled_text ∙ ap (λ (x : Waiting). x.settled_text) is in
     record {
@@ -66,7 +66,7 @@ finished-told e before input output (b ∷ kept) w start now r waiting unsent st
     }
 
 -- the sink failed
-pub finished-untold : (e : ℕ) (before : State) (input output kept : List ℕ) (w : StoreView) (start now : Moment) → Reached e before input output kept w start now → (waiting unsent : Waiting) (count : ℕ) (stands0 stands : List ℕ → Type 0) (faults0 faults : ℕ) → waiting ≡ all_settled (with_end kept nothing_waits) → Sends count stands0 stands waiting unsent → SteppedOver e before served.Sink input output stands0 stands faults0 faults start now
+pub finished-untold : (e : ℕ) (before : State) (input output kept : List ℕ) (w : StoreView) (start now : Moment) → ServedSoFar e before input output kept w start now → (waiting unsent : Waiting) (count : ℕ) (stands0 stands : List ℕ → Type 0) (faults0 faults : ℕ) → waiting ≡ all_settled (with_end kept nothing_waits) → Sends count stands0 stands waiting unsent → EndedShowing e before served.Sink input output stands0 stands faults0 faults start now
 finished-untold e before input output [] w start now r waiting unsent count stands0 stands faults0 faults is sends =
     let said : take count waiting.settled_text ≡ [] = ap (λ (x : Waiting). take count x.settled_text) is ∙ none-of count in
     record {
@@ -86,14 +86,14 @@ finished-untold e before input output (b ∷ kept) w start now r waiting unsent 
 -- ---- one turn
 
 -- the source failed
-pub turned-fault : (e : ℕ) (before : State) (input output kept : List ℕ) (w : StoreView) (start now : Moment) → Reached e before input output kept w start now → (left0 left : Option (List ℕ)) (stands : List ℕ → Type 0) (faults : ℕ) → left ≡ left0 → IsSound served.Source × TurnedOver e before served.Source input output left0 left stands stands faults faults start now
+pub turned-fault : (e : ℕ) (before : State) (input output kept : List ℕ) (w : StoreView) (start now : Moment) → ServedSoFar e before input output kept w start now → (left0 left : Option (List ℕ)) (stands : List ℕ → Type 0) (faults : ℕ) → left ≡ left0 → IsSound served.Source × EndedTaking e before served.Source input output left0 left stands stands faults faults start now
 turned-fault e before input output kept w start now r left0 left stands faults same = (
   tt,
   record {
     taken = [];
     takes = subst (λ (l : Option (List ℕ)). Takes left0 l []) (sym same) (Takes-none left0);
     at_end = λ done. absurd (cc (done));
-    over = subst (λ (bytes : List ℕ). SteppedOver e before served.Source bytes output stands stands faults faults start now) (sym (append-nil input))
+    over = subst (λ (bytes : List ℕ). EndedShowing e before served.Source bytes output stands stands faults faults start now) (sym (append-nil input))
         (record { added = []; gained = Gains-none stands; over = no-more e before served.Source input output faults faults start now (over-paused e before input output kept w start now r served.Source faults faults (λ done. absurd (cc (done)))) });
   },
 )
@@ -116,7 +116,7 @@ end-sound served.NoMemory end = tt
 end-sound served.Turns end = tt
 
 -- its end was met
-pub turned-end : (e : ℕ) (before : State) (status : Served) (input output : List ℕ) (start now : Moment) (left0 left : Option (List ℕ)) (stands0 stands : List ℕ → Type 0) (faults0 faults : ℕ) (page : List ℕ) (n : ℕ) → n ≡ 0 → IsEnd status → Takes left0 left (take n page) → IsAtEnd left0 → SteppedOver e before status input output stands0 stands faults0 faults start now → IsSound status × TurnedOver e before status input output left0 left stands0 stands faults0 faults start now
+pub turned-end : (e : ℕ) (before : State) (status : Served) (input output : List ℕ) (start now : Moment) (left0 left : Option (List ℕ)) (stands0 stands : List ℕ → Type 0) (faults0 faults : ℕ) (page : List ℕ) (n : ℕ) → n ≡ 0 → IsEnd status → Takes left0 left (take n page) → IsAtEnd left0 → EndedShowing e before status input output stands0 stands faults0 faults start now → IsSound status × EndedTaking e before status input output left0 left stands0 stands faults0 faults start now
 turned-end e before status input output start now left0 left stands0 stands faults0 faults page n none end takes done over =
     let nothing = subst (λ (k : ℕ). Takes left0 left (take k page)) none takes in (
       end-sound status end,
@@ -124,12 +124,12 @@ turned-end e before status input output start now left0 left stands0 stands faul
         taken = [];
         takes = nothing;
         at_end = λ is. at-end left0 left nothing.front done;
-        over = subst (λ (bytes : List ℕ). SteppedOver e before status bytes output stands0 stands faults0 faults start now) (sym (append-nil input)) over;
+        over = subst (λ (bytes : List ℕ). EndedShowing e before status bytes output stands0 stands faults0 faults start now) (sym (append-nil input)) over;
       },
     )
 
 -- a piece was served
-pub turned-on : (e : ℕ) (before : State) (input output kept : List ℕ) (w : StoreView) (start new : Moment) (left0 left : Option (List ℕ)) (stands0 stands : List ℕ → Type 0) (piece taken : List ℕ) → Takes left0 left taken → taken ≡ piece → SteppedOn e before (input ++ piece) output kept w stands0 stands start new → TurnedOn e before input output kept w left0 left stands0 stands start new
+pub turned-on : (e : ℕ) (before : State) (input output kept : List ℕ) (w : StoreView) (start new : Moment) (left0 left : Option (List ℕ)) (stands0 stands : List ℕ → Type 0) (piece taken : List ℕ) → Takes left0 left taken → taken ≡ piece → ShowedFurther e before (input ++ piece) output kept w stands0 stands start new → TookFurther e before input output kept w left0 left stands0 stands start new
 turned-on e before input output kept w start new left0 left stands0 stands piece taken takes is on = record { taken = piece; takes = subst (λ (bytes : List ℕ). Takes left0 left bytes) is takes; on = on }
 
 -- no block is damaged where serving stopped in a piece
@@ -143,7 +143,7 @@ sound served.NoMemory halt = tt
 sound served.Turns halt = tt
 
 -- serving stopped in a piece
-pub turned-over : (e : ℕ) (before : State) (status : Served) (input output : List ℕ) (start new : Moment) (left0 left : Option (List ℕ)) (stands0 stands : List ℕ → Type 0) (faults0 faults : ℕ) (piece taken : List ℕ) → Takes left0 left taken → taken ≡ piece → IsHalt status × SteppedOver e before status (input ++ piece) output stands0 stands faults0 faults start new → IsSound status × TurnedOver e before status input output left0 left stands0 stands faults0 faults start new
+pub turned-over : (e : ℕ) (before : State) (status : Served) (input output : List ℕ) (start new : Moment) (left0 left : Option (List ℕ)) (stands0 stands : List ℕ → Type 0) (faults0 faults : ℕ) (piece taken : List ℕ) → Takes left0 left taken → taken ≡ piece → IsHalt status × EndedShowing e before status (input ++ piece) output stands0 stands faults0 faults start new → IsSound status × EndedTaking e before status input output left0 left stands0 stands faults0 faults start new
 turned-over e before status input output start new left0 left stands0 stands faults0 faults piece taken takes is over = (
   sound status over.0,
   record { taken = piece; takes = subst (λ (bytes : List ℕ). Takes left0 left bytes) is takes; at_end = λ done. absurd (subst IsHalt done over.0); over = over.1 },
@@ -152,7 +152,7 @@ turned-over e before status input output start new left0 left stands0 stands fau
 -- ---- one turn behind another
 
 -- nothing was taken yet
-reached-none : (e : ℕ) (before : State) (kept : List ℕ) (w : StoreView) (s : Moment) → kept ≡ [] → IsOpen w before s.state → Reached e before [] [] kept w s s
+reached-none : (e : ℕ) (before : State) (kept : List ℕ) (w : StoreView) (s : Moment) → kept ≡ [] → IsOpen w before s.state → ServedSoFar e before [] [] kept w s s
 reached-none e before kept w s none opened = record {
   replies = [];
   writes = [];
@@ -166,12 +166,12 @@ reached-none e before kept w s none opened = record {
 }
 
 -- a run that took nothing yet
-pub turned-none : (e : ℕ) (before : State) (kept : List ℕ) (w : StoreView) (left : Option (List ℕ)) (stands : List ℕ → Type 0) (s : Moment) → kept ≡ [] → IsOpen w before s.state → TurnedOn e before [] [] kept w left left stands stands s s
+pub turned-none : (e : ℕ) (before : State) (kept : List ℕ) (w : StoreView) (left : Option (List ℕ)) (stands : List ℕ → Type 0) (s : Moment) → kept ≡ [] → IsOpen w before s.state → TookFurther e before [] [] kept w left left stands stands s s
 turned-none e before kept w left stands s none opened = record { taken = []; takes = Takes-none left; on = on-none e before [] [] kept w stands s s (reached-none e before kept w s none opened) }
 
-module _ (e : ℕ) (before : State) (kept : List ℕ) (w : StoreView) (left0 left1 : Option (List ℕ)) (stands0 stands1 : List ℕ → Type 0) (start mid : Moment) (t : TurnedOn e before [] [] kept w left0 left1 stands0 stands1 start mid) where
+module _ (e : ℕ) (before : State) (kept : List ℕ) (w : StoreView) (left0 left1 : Option (List ℕ)) (stands0 stands1 : List ℕ → Type 0) (start mid : Moment) (t : TookFurther e before [] [] kept w left0 left1 stands0 stands1 start mid) where
   -- no turn is left, or no memory
-  pub turned-pause : (status : Served) (faults0 faults : ℕ) → (status ≡ served.Done → ⊥) → TurnedOver e before status [] [] left0 left1 stands0 stands1 faults0 faults start mid
+  pub turned-pause : (status : Served) (faults0 faults : ℕ) → (status ≡ served.Done → ⊥) → EndedTaking e before status [] [] left0 left1 stands0 stands1 faults0 faults start mid
   turned-pause status faults0 faults other = record {
     taken = t.taken;
     takes = t.takes;
@@ -181,9 +181,9 @@ module _ (e : ℕ) (before : State) (kept : List ℕ) (w : StoreView) (left0 lef
 
   module _ (f : ℕ) (same : f ≡ e) (left : Option (List ℕ)) (stands : List ℕ → Type 0) (new : Moment) where
     -- one turn more
-    pub turned-more : (kept' : List ℕ) (x : StoreView) → (Reached f before t.taken t.on.added kept w start mid → TurnedOn f before t.taken t.on.added kept' x left1 left stands1 stands start new) → TurnedOn e before [] [] kept' x left0 left stands0 stands start new
+    pub turned-more : (kept' : List ℕ) (x : StoreView) → (ServedSoFar f before t.taken t.on.added kept w start mid → TookFurther f before t.taken t.on.added kept' x left1 left stands1 stands start new) → TookFurther e before [] [] kept' x left0 left stands0 stands start new
     turned-more kept' x call =
-        let u : TurnedOn e before t.taken t.on.added kept' x left1 left stands1 stands start new = subst (λ (n : ℕ). TurnedOn n before t.taken t.on.added kept' x left1 left stands1 stands start new) same (call (subst (λ (n : ℕ). Reached n before t.taken t.on.added kept w start mid) (sym same) t.on.reached)) in
+        let u : TookFurther e before t.taken t.on.added kept' x left1 left stands1 stands start new = subst (λ (n : ℕ). TookFurther n before t.taken t.on.added kept' x left1 left stands1 stands start new) same (call (subst (λ (n : ℕ). ServedSoFar n before t.taken t.on.added kept w start mid) (sym same) t.on.reached)) in
         record {
           taken = t.taken ++ u.taken;
           takes = Takes-more left0 left1 left t.taken u.taken t.takes u.takes;
@@ -191,10 +191,10 @@ module _ (e : ℕ) (before : State) (kept : List ℕ) (w : StoreView) (left0 lef
         }
 
     -- the last one
-    pub turned-last : (status : Served) (first faults0 faults : ℕ) → first ≤ faults0 → (Reached f before t.taken t.on.added kept w start mid → IsSound status × TurnedOver f before status t.taken t.on.added left1 left stands1 stands faults0 faults start new) → IsSound status × TurnedOver e before status [] [] left0 left stands0 stands first faults start new
+    pub turned-last : (status : Served) (first faults0 faults : ℕ) → first ≤ faults0 → (ServedSoFar f before t.taken t.on.added kept w start mid → IsSound status × EndedTaking f before status t.taken t.on.added left1 left stands1 stands faults0 faults start new) → IsSound status × EndedTaking e before status [] [] left0 left stands0 stands first faults start new
     turned-last status first faults0 faults le call =
-        let both = call (subst (λ (n : ℕ). Reached n before t.taken t.on.added kept w start mid) (sym same) t.on.reached) in
-        let u : TurnedOver e before status t.taken t.on.added left1 left stands1 stands faults0 faults start new = subst (λ (n : ℕ). TurnedOver n before status t.taken t.on.added left1 left stands1 stands faults0 faults start new) same both.1 in (
+        let both = call (subst (λ (n : ℕ). ServedSoFar n before t.taken t.on.added kept w start mid) (sym same) t.on.reached) in
+        let u : EndedTaking e before status t.taken t.on.added left1 left stands1 stands faults0 faults start new = subst (λ (n : ℕ). EndedTaking n before status t.taken t.on.added left1 left stands1 stands faults0 faults start new) same both.1 in (
           both.0,
           record {
             taken = t.taken ++ u.taken;
@@ -228,7 +228,7 @@ open-sound (opens.Damaged block) sound = absurd (sound block refl)
 open-sound opens.NoMemory sound = tt
 
 -- no line was acted
-over-unopened : (e : ℕ) (before : State) (status : Served) (faults0 faults : ℕ) (old new : Moment) → new.state ≡ old.state → old.reads ≤ new.reads → AtRest before old.state → Over e before status [] [] faults0 faults old new
+over-unopened : (e : ℕ) (before : State) (status : Served) (faults0 faults : ℕ) (old new : Moment) → new.state ≡ old.state → old.reads ≤ new.reads → AtRest before old.state → ServingEnded e before status [] [] faults0 faults old new
 unfolding acknowledged
 over-unopened e before status faults0 faults old new still later r =
     let same : before ≡ after_writes before [] = sym (no_writes before) in
@@ -257,7 +257,7 @@ over-unopened e before status faults0 faults old new still later r =
     }
 
 -- counted from fewer reads, on the same device
-over-before : (e : ℕ) (before : State) (status : Served) (input output : List ℕ) (faults0 faults : ℕ) (first old new : Moment) → first.state ≡ old.state → first.reads ≤ old.reads → Over e before status input output faults0 faults old new → Over e before status input output faults0 faults first new
+over-before : (e : ℕ) (before : State) (status : Served) (input output : List ℕ) (faults0 faults : ℕ) (first old new : Moment) → first.state ≡ old.state → first.reads ≤ old.reads → ServingEnded e before status input output faults0 faults old new → ServingEnded e before status input output faults0 faults first new
 over-before e before status input output faults0 faults first old new same le o = record {
   acted = o.acted;
   others = o.others;
@@ -280,7 +280,7 @@ over-before e before status input output faults0 faults first old new same le o 
 }
 
 -- so is a run of a store that was opened before
-pub turned-opened : (e : ℕ) (before : State) (status : Served) (left0 left : Option (List ℕ)) (stands0 stands : List ℕ → Type 0) (faults0 faults : ℕ) (first old new : Moment) → first.state ≡ old.state → first.reads ≤ old.reads → IsSound status × TurnedOver e before status [] [] left0 left stands0 stands faults0 faults old new → IsSound status × TurnedOver e before status [] [] left0 left stands0 stands faults0 faults first new
+pub turned-opened : (e : ℕ) (before : State) (status : Served) (left0 left : Option (List ℕ)) (stands0 stands : List ℕ → Type 0) (faults0 faults : ℕ) (first old new : Moment) → first.state ≡ old.state → first.reads ≤ old.reads → IsSound status × EndedTaking e before status [] [] left0 left stands0 stands faults0 faults old new → IsSound status × EndedTaking e before status [] [] left0 left stands0 stands faults0 faults first new
 turned-opened e before status left0 left stands0 stands faults0 faults first old new same le both =
     let t = both.1 in (
       both.0,
@@ -293,9 +293,9 @@ turned-opened e before status left0 left stands0 stands faults0 faults first old
     )
 
 -- nothing was served: the device is as it was
-pub turned-unopened : (e : ℕ) (before : State) (fault : OpenFault) (status : Served) (left : Option (List ℕ)) (stands : List ℕ → Type 0) (faults : ℕ) (old new : Moment) → status ≡ unopened_of fault → new.state ≡ old.state → old.reads ≤ new.reads → AtRest before old.state → ((block : ℕ) → fault ≡ opens.Damaged block → ⊥) → IsSound status × TurnedOver e before status [] [] left left stands stands faults faults old new
+pub turned-unopened : (e : ℕ) (before : State) (fault : OpenFault) (status : Served) (left : Option (List ℕ)) (stands : List ℕ → Type 0) (faults : ℕ) (old new : Moment) → status ≡ unopened_of fault → new.state ≡ old.state → old.reads ≤ new.reads → AtRest before old.state → ((block : ℕ) → fault ≡ opens.Damaged block → ⊥) → IsSound status × EndedTaking e before status [] [] left left stands stands faults faults old new
 turned-unopened e before fault status left stands faults old new is same later rests none =
-    subst (λ (answer : Served). IsSound answer × TurnedOver e before answer [] [] left left stands stands faults faults old new) (sym is) (
+    subst (λ (answer : Served). IsSound answer × EndedTaking e before answer [] [] left left stands stands faults faults old new) (sym is) (
       open-sound fault none,
       record {
         taken = [];

@@ -34,8 +34,8 @@ pub record TellsStat (v : StoreView) (old new : Moment) (reply : Reply) : Type 0
   pub past : KeepsPast old.state new.state
 
 -- The command was answered by the map machine, and its reply waits; `taken` where it is a write that was taken.
-pub record Answers (v : StoreView) (durable : State) (command : Command) (taken : Bool) (waiting0 waiting : Waiting)
-    (w : StoreView) (old new : Moment) : Type 0 where
+pub record CommandAnswered (v : StoreView) (durable : State) (command : Command) (taken : Bool)
+    (waiting0 waiting : Waiting) (w : StoreView) (old new : Moment) : Type 0 where
   pub reply : Reply
   pub writes : List Item
   pub runs : Runs (extents_of v) (state_of v durable) (command ∷ []) (reply ∷ []) writes
@@ -50,7 +50,7 @@ pub record Answers (v : StoreView) (durable : State) (command : Command) (taken 
 
 -- The command was not answered, and no block is damaged. All that was durable still is, at each moment; where memory
 -- was short the device is at rest.
-pub record Lost (v : StoreView) (durable : State) (fault : RoundFault) (old new : Moment) : Type 0 where
+pub record CommandFailed (v : StoreView) (durable : State) (fault : RoundFault) (old new : Moment) : Type 0 where
   pub lost : IsLost fault
   pub survives : Survives v [] durable old.state new.state
   pub rests : fault ≡ faults.NoMemory → (sure : ℕ) × AtRest (after_writes durable (take sure v.log.pending)) new.state
@@ -61,20 +61,20 @@ pub record Lost (v : StoreView) (durable : State) (fault : RoundFault) (old new 
 abbrev pub AnswersWhereOpen : {D : Type 0} → Ghosts D → StoreView → Command → Bool → Waiting → Waiting → StoreView → D
     → D → Type 0
 AnswersWhereOpen d v command taken waiting0 waiting w old new = (durable : State) → IsOpen v durable (d.state old)
-    → Answers v durable command taken waiting0 waiting w (moment_of d old) (moment_of d new)
+    → CommandAnswered v durable command taken waiting0 waiting w (moment_of d old) (moment_of d new)
 
 -- where the store is open on the device, the command was not answered, and nothing is lost
-abbrev pub LostWhereOpen : {D : Type 0} → Ghosts D → StoreView → RoundFault → D → D → Type 0
-LostWhereOpen d v fault old new = (durable : State) → IsOpen v durable (d.state old)
-    → Lost v durable fault (moment_of d old) (moment_of d new)
+abbrev pub FailsWhereOpen : {D : Type 0} → Ghosts D → StoreView → RoundFault → D → D → Type 0
+FailsWhereOpen d v fault old new = (durable : State) → IsOpen v durable (d.state old)
+    → CommandFailed v durable fault (moment_of d old) (moment_of d new)
 
--- all of it is settled as long as no write was taken
+-- the replies that wait, all of them settled as long as no write was taken
 abbrev pub settled_unless : Bool → Waiting → Waiting
 settled_unless true w = w
 settled_unless false w = all_settled w
 
 -- A line was answered by the map machine, and its reply is settled as long as no write was taken.
-pub record Answered (v : StoreView) (durable : State) (command : Command) (wrote0 wrote : Bool)
+pub record LineAnswered (v : StoreView) (durable : State) (command : Command) (wrote0 wrote : Bool)
     (waiting0 waiting : Waiting) (w : StoreView) (old new : Moment) : Type 0 where
   pub reply : Reply
   pub writes : List Item
@@ -92,7 +92,7 @@ pub record Answered (v : StoreView) (durable : State) (command : Command) (wrote
 abbrev pub AnswersHeld : {D : Type 0} → Ghosts D → Session → Session → Waiting → Waiting → D → D → Type 0
 AnswersHeld d s t waiting0 waiting old new = (line : List ℕ) (durable : State) → kept_in s ≡ kept_of line
     → IsOpen (store_in s) durable (d.state old)
-    → Answered (store_in s) durable (command_of_line line) s.wrote t.wrote waiting0 waiting (store_in t)
+    → LineAnswered (store_in s) durable (command_of_line line) s.wrote t.wrote waiting0 waiting (store_in t)
     (moment_of d old) (moment_of d new)
 
 -- the event is the command's, and it may be acted where the command keeps to its limits; a refused line is no event

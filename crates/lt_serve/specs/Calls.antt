@@ -28,10 +28,10 @@ pub record ActsOn {D T E : Type 0} (d : Ghosts D) (v w : StoreView) (result : Re
   pub cause : IsErrOf result failed → Rose (d.faults old) (d.faults new)
   pub damaged : (b : ℕ) → IsErrOf result (damaged_at b) → StopsGetOf v b (d.state new)
 
--- so do the calls of a round
+-- what the calls of a round leave of the store and the device, and what its faults name
 abbrev pub RoundActs : {D T : Type 0} → Ghosts D → Session → Session → Result T RoundFault → D → D → Type 0
 RoundActs d s t result old new = ActsOn d (store_in s) (store_in t) result rounds.Device rounds.Damaged old new
 
--- so do the calls of a turn
+-- what the calls of a turn leave of the store and the device, and what the answer that ends it names
 abbrev pub TurnActs : {D T : Type 0} → Ghosts D → Session → Session → Result T Served → D → D → Type 0
 TurnActs d s t result old new = ActsOn d (store_in s) (store_in t) result served.Device served.Damaged old new

@@ -74,7 +74,7 @@ abbrev pub OnStat : (ℕ → ℕ → Type 0) → Reply → Type 0
 OnStat P (replies.stat writes reads tables free) = P tables free
 OnStat P reply = Unit {0}
 
--- so it is of each reply, where P is also told how many `OK`s stand before it, behind so many
+-- P holds of what each `STAT` of a run tells, and of how many `OK`s stand before it, behind so many
 abbrev pub EachStat : (ℕ → ℕ → ℕ → Type 0) → ℕ → List Reply → Type 0
 EachStat P oks [] = Unit {0}
 EachStat P oks (reply ∷ rest) = OnStat (P oks) reply × EachStat P (oks + (if is_ok reply then 1 else 0)) rest
@@ -141,7 +141,7 @@ pub record ShowsUpToOk (replies : List Reply) (output : List ℕ) : Type 0 where
 
 -- Serving is over: first commands of the ended input were answered by the map machine, and the output is a front of
 -- the text of the replies.
-pub record Over (e : ℕ) (before : State) (status : Served) (input output : List ℕ) (faults0 faults : ℕ)
+pub record ServingEnded (e : ℕ) (before : State) (status : Served) (input output : List ℕ) (faults0 faults : ℕ)
     (old new : Moment) : Type 0 where
   -- the commands that were acted and those that were not
   pub acted : List Command
@@ -177,19 +177,19 @@ pub record Over (e : ℕ) (before : State) (status : Served) (input output : Lis
   pub quiet : IsSettled status → writes ≡ [] → new.state ≡ old.state
 
 -- a call that gave bytes to the sink, and after which serving is over
-pub record SteppedOver (e : ℕ) (before : State) (status : Served) (input output : List ℕ) (stands0 stands : List ℕ
+pub record EndedShowing (e : ℕ) (before : State) (status : Served) (input output : List ℕ) (stands0 stands : List ℕ
     → Type 0) (faults0 faults : ℕ) (start new : Moment) : Type 0 where
   pub added : List ℕ
   pub gained : Gains stands0 stands added
-  pub over : Over e before status input (output ++ added) faults0 faults start new
+  pub over : ServingEnded e before status input (output ++ added) faults0 faults start new
 
 -- a call that took bytes of the source, gave bytes to the sink, and after which serving is over
-pub record TurnedOver (e : ℕ) (before : State) (status : Served) (input output : List ℕ) (left0 left : Option
+pub record EndedTaking (e : ℕ) (before : State) (status : Served) (input output : List ℕ) (left0 left : Option
     (List ℕ)) (stands0 stands : List ℕ → Type 0) (faults0 faults : ℕ) (start new : Moment) : Type 0 where
   pub taken : List ℕ
   pub takes : Takes left0 left taken
   pub at_end : status ≡ served.Done → IsAtEnd left
-  pub over : SteppedOver e before status (input ++ taken) output stands0 stands faults0 faults start new
+  pub over : EndedShowing e before status (input ++ taken) output stands0 stands faults0 faults start new
 
 -- the sink took some bytes
 pub record GainsSome (stands0 stands : List ℕ → Type 0) : Type 0 where
@@ -227,7 +227,7 @@ pub record IsCaused {S K D : Type 0} (u : Sources S) (k : Sinks K) (d : Devices 
 abbrev pub ServesFrom : {S K D : Type 0} → Sources S → Sinks K → Devices D → ℕ → State → Served → S → S → K → K → D
     → D → Type 0
 ServesFrom u k d e before status source0 source sink0 sink old new = IsSound status
-    × TurnedOver e before status [] [] (u.left source0) (u.left source) (k.stands sink0) (k.stands sink)
+    × EndedTaking e before status [] [] (u.left source0) (u.left source) (k.stands sink0) (k.stands sink)
     (k.faults sink0) (k.faults sink) (moment_of d old) (moment_of d new)
 
 -- the device tells its blocks, and opening them stops at this one
@@ -236,7 +236,7 @@ pub record FailsToOpen (device : told.State) (block : ℕ) : Type 0 where
   pub shown : device.shown ≡ Some image
   pub stops : open_image image ≡ Err block
 
--- this block is named, or the device failed or memory was short
+-- the answer where opening stops at a block: that block is named, or the device failed, or memory was short
 abbrev pub IsUnopened : ℕ → Served → Type 0
 IsUnopened block (served.Damaged b) = b ≡ block
 IsUnopened block served.Device = Unit {0}

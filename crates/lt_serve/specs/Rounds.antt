@@ -3,7 +3,7 @@ use Rattle.std.specs.Bool.{IsFalse}
 use Rattle.lt_device.specs.declared.device.Device.{Ghosts}
 use Rattle.lt_serve.specs.declared.session.Session.{Session}
 use Rattle.lt_serve.specs.View.{kept_in, store_in}
-use Rattle.std.specs.Prelude.{◌≡◌, ◌≢◌, ℕ, ◌+◌, ◌-◌, ◌<◌, ◌≤◌, Bool, true, false, List, [], ◌∷◌, ◌++◌, map, take}
+use Rattle.std.specs.Prelude.{◌≡◌, ◌≢◌, ℕ, ◌+◌, ◌-◌, ◌<◌, ◌≤◌, Bool, true, false, List, [], ◌∷◌, ◌++◌, map, take, None}
 use Rattle.std.specs.Prelude.{length}
 use Rattle.lt_terms.specs.Items.{Item}
 use Rattle.lt_device.specs.Moments.{Leaves}
@@ -29,8 +29,8 @@ all_text waiting = waiting.settled_text ++ waiting.pending_text
 
 -- The lines of the bytes were acted from `v` on. The replies before the first write that was taken are settled, and
 -- the others wait; `wrote` where there are such.
-pub record Went (v : StoreView) (durable : State) (bytes kept : List ℕ) (wrote : Bool) (waiting0 waiting : Waiting)
-    (w : StoreView) (old new : Moment) : Type 0 where
+pub record LinesActed (v : StoreView) (durable : State) (bytes kept : List ℕ) (wrote : Bool)
+    (waiting0 waiting : Waiting) (w : StoreView) (old new : Moment) : Type 0 where
   pub shown : List Reply
   pub hidden : List Reply
   pub writes : List Item
@@ -50,7 +50,7 @@ pub record Went (v : StoreView) (durable : State) (bytes kept : List ℕ) (wrote
   pub counts : v.log.pending ≡ [] → TellsCounts durable (shown ++ hidden) writes old new
 
 -- A round that took the bytes: all their lines were answered, the replies are settled, and all writes are durable.
-pub record Round (e : ℕ) (durable : State) (bytes kept : List ℕ) (waiting0 waiting : Waiting) (w : StoreView)
+pub record RoundServed (e : ℕ) (durable : State) (bytes kept : List ℕ) (waiting0 waiting : Waiting) (w : StoreView)
     (old new : Moment) : Type 0 where
   pub replies : List Reply
   pub writes : List Item
@@ -71,7 +71,7 @@ pub record Round (e : ℕ) (durable : State) (bytes kept : List ℕ) (waiting0 w
   pub counts : TellsCounts durable replies writes old new
 
 -- The event of a line failed: the line that is held is one of the bytes' lines, and those before it were acted.
-pub record AtLine (bytes kept : List ℕ) (acted : List Command) : Type 0 where
+pub record FailedAtLine (bytes kept : List ℕ) (acted : List Command) : Type 0 where
   pub before : List (List ℕ)
   pub line : List ℕ
   pub after : List (List ℕ)
@@ -81,7 +81,7 @@ pub record AtLine (bytes kept : List ℕ) (acted : List Command) : Type 0 where
 
 -- The commit failed: all lines of the bytes that were taken were acted, and these are all bytes, unless there was no
 -- room left for another reply.
-pub record AtCommit (bytes kept : List ℕ) (acted : List Command) (left : ℕ) : Type 0 where
+pub record FailedAtCommit (bytes kept : List ℕ) (acted : List Command) (left : ℕ) : Type 0 where
   pub taken : List ℕ
   pub rest : List ℕ
   pub split : bytes ≡ taken ++ rest
@@ -91,7 +91,7 @@ pub record AtCommit (bytes kept : List ℕ) (acted : List Command) (left : ℕ) 
 
 -- A round that failed within the bytes: the lines before the one that is held were acted, the replies before their
 -- first write that was taken are settled, and no other.
-pub record Stopped (e : ℕ) (durable : State) (bytes : List ℕ) (held : HeldLine) (fault : RoundFault)
+pub record RoundFailed (e : ℕ) (durable : State) (bytes : List ℕ) (held : HeldLine) (fault : RoundFault)
     (waiting0 : Waiting) (settled : List ℕ) (old new : Moment) : Type 0 where
   pub acted : List Command
   pub shown : List Reply
@@ -100,9 +100,9 @@ pub record Stopped (e : ℕ) (durable : State) (bytes : List ℕ) (held : HeldLi
   pub runs : Runs e durable acted (shown ++ hidden) writes
   pub fits : length (texts (shown ++ hidden)) ≤ waiting0.room
   -- it failed at the line that is held where that has ended, and else at the commit
-  pub at_line : held.is_ended ≡ true → AtLine bytes held.kept acted
+  pub at_line : held.is_ended ≡ true → FailedAtLine bytes held.kept acted
   pub at_commit : held.is_ended ≡ false
-      → AtCommit bytes held.kept acted (waiting0.room - length (texts (shown ++ hidden)))
+      → FailedAtCommit bytes held.kept acted (waiting0.room - length (texts (shown ++ hidden)))
   pub text : settled ≡ waiting0.settled_text ++ texts shown
   pub unwritten : ok_count shown ≡ 0
   pub first : StartWithOk hidden
@@ -121,10 +121,12 @@ pub record TakesFront (n : ℕ) (piece : List ℕ) (room : ℕ) : Type 0 where
   pub some : 0 < length piece → 0 < n
   pub enough : n < length piece → room < most_text
 
--- a round is under way: the session is not to be used, its store is up, and it holds no line that has ended
+-- a round is under way: the session is not to be used, its store is up with no job in flight, and it holds no line that
+-- has ended
 pub record IsActing (s : Session) : Type 0 where
   pub down : s.is_up ≡ false
   pub up : s.store.is_up ≡ true
+  pub still : (store_in s).work.job ≡ None
   pub open_line : s.lines.is_ended ≡ false
 
 -- a round begins: no write was taken yet, all writes are durable, and all text that waits is settled
@@ -138,7 +140,7 @@ pub record BeginsRound (s : Session) (waiting : Waiting) : Type 0 where
 abbrev pub ServesLines : {D : Type 0} → Ghosts D → Session → Session → List ℕ → Waiting → Waiting → D → D → Type 0
 ServesLines d s t bytes waiting0 waiting old new = (durable : State) (line : List ℕ)
     → IsOpen (store_in s) durable (d.state old) → IsFalse (has_line_feed line) → kept_in s ≡ kept_of line
-    → Round (extents_of (store_in s)) durable (line ++ bytes) (kept_in t) waiting0 waiting (store_in t)
+    → RoundServed (extents_of (store_in s)) durable (line ++ bytes) (kept_in t) waiting0 waiting (store_in t)
     (moment_of d old) (moment_of d new)
 
 -- behind the line that the session has begun, on a device that its store is open on, a round failed in these bytes
@@ -146,22 +148,22 @@ abbrev pub StopsInLines : {D : Type 0} → Ghosts D → Session → Session → 
     → D → Type 0
 StopsInLines d s t bytes fault waiting0 waiting old new = (durable : State) (line : List ℕ)
     → IsOpen (store_in s) durable (d.state old) → IsFalse (has_line_feed line) → kept_in s ≡ kept_of line
-    → Stopped (extents_of (store_in s)) durable (line ++ bytes) t.lines fault waiting0 waiting.settled_text
+    → RoundFailed (extents_of (store_in s)) durable (line ++ bytes) t.lines fault waiting0 waiting.settled_text
     (moment_of d old) (moment_of d new)
 
 -- behind the line that the session has begun, on a device that its store is open on, these bytes were acted
 abbrev pub ActsLines : {D : Type 0} → Ghosts D → Session → Session → List ℕ → Waiting → Waiting → D → D → Type 0
 ActsLines d s t bytes waiting0 waiting old new = (durable : State) (line : List ℕ)
     → IsOpen (store_in s) durable (d.state old) → IsFalse (has_line_feed line) → kept_in s ≡ kept_of line
-    → Went (store_in s) durable (line ++ bytes) (kept_in t) t.wrote waiting0 waiting (store_in t)
+    → LinesActed (store_in s) durable (line ++ bytes) (kept_in t) t.wrote waiting0 waiting (store_in t)
     (moment_of d old) (moment_of d new)
 
 -- from wherever a round has got to, it goes on by these bytes
 abbrev pub ActsFurther : {D : Type 0} → Ghosts D → Session → Session → List ℕ → Waiting → Waiting → D → D → Type 0
 ActsFurther d s t bytes now waiting old new = (v : StoreView) (durable : State) (before : List ℕ) (waiting0 : Waiting)
     (start : Moment) → IsOpen v durable start.state → extents_of (store_in s) ≡ extents_of v
-    → Went v durable before (kept_in s) s.wrote waiting0 now (store_in s) start (moment_of d old)
-    → Went v durable (before ++ bytes) (kept_in t) t.wrote waiting0 waiting (store_in t) start (moment_of d new)
+    → LinesActed v durable before (kept_in s) s.wrote waiting0 now (store_in s) start (moment_of d old)
+    → LinesActed v durable (before ++ bytes) (kept_in t) t.wrote waiting0 waiting (store_in t) start (moment_of d new)
 
 -- from wherever a round has got to, it fails in these bytes
 abbrev pub StopsFurther : {D : Type 0} → Ghosts D → Session → Session → List ℕ → RoundFault → Waiting → Waiting → D
@@ -169,6 +171,6 @@ abbrev pub StopsFurther : {D : Type 0} → Ghosts D → Session → Session → 
 StopsFurther d s t bytes fault now waiting old new = (v : StoreView) (durable : State) (before : List ℕ)
     (waiting0 : Waiting) (start : Moment) → IsOpen v durable start.state → extents_of (store_in s) ≡ extents_of v
     → v.log.pending ≡ []
-    → Went v durable before (kept_in s) s.wrote waiting0 now (store_in s) start (moment_of d old)
-    → Stopped (extents_of v) durable (before ++ bytes) t.lines fault waiting0 waiting.settled_text start
+    → LinesActed v durable before (kept_in s) s.wrote waiting0 now (store_in s) start (moment_of d old)
+    → RoundFailed (extents_of v) durable (before ++ bytes) t.lines fault waiting0 waiting.settled_text start
     (moment_of d new)

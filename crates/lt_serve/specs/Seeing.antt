@@ -202,7 +202,7 @@ SeesLast u k d s status source0 source sink0 sink old = (v : StoreView) (image :
 
 -- ---- on the device that the store is open on, and on any that tells its blocks
 
--- these lines were acted
+-- behind the line that the session has begun, these bytes were acted, whatever the device tells
 abbrev pub AnswersLines : {D : Type 0} → Ghosts D → Session → Session → List ℕ → Waiting → Waiting → D → D → Type 0
 AnswersLines d s t bytes waiting0 waiting old new = ActsLines d s t bytes waiting0 waiting old new
     × SeesAll d s t bytes waiting0 waiting old new

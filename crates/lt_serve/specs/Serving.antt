@@ -17,11 +17,11 @@ use Rattle.lt_language.specs.Replies.{Reply, texts}
 use Rattle.lt_line.specs.Held.{kept_of}
 use Rattle.lt_line.specs.Waiting.{Waiting, nothing_waits}
 use Rattle.lt_store.specs.Open.{StoreView, IsOpen, blocks_of, extents_of}
-use Rattle.lt_serve.specs.Promise.{IsSound, Moment, Runs, SteppedOver, TellsCounts, TurnedOver, moment_of}
+use Rattle.lt_serve.specs.Promise.{IsSound, Moment, Runs, EndedShowing, TellsCounts, EndedTaking, moment_of}
 
 -- A store of e extents that stood for `before`: all lines of the input were acted, this is the text of their
 -- replies, and all writes that were taken are durable.
-pub record Reached (e : ℕ) (before : State) (input output kept : List ℕ) (w : StoreView)
+pub record ServedSoFar (e : ℕ) (before : State) (input output kept : List ℕ) (w : StoreView)
     (old new : Moment) : Type 0 where
   pub replies : List Reply
   pub writes : List Item
@@ -36,18 +36,18 @@ pub record Reached (e : ℕ) (before : State) (input output kept : List ℕ) (w 
   pub counts : TellsCounts before replies writes old new
 
 -- a call that gave bytes to the sink, and goes on
-pub record SteppedOn (e : ℕ) (before : State) (input output kept : List ℕ) (w : StoreView) (stands0 stands : List ℕ
+pub record ShowedFurther (e : ℕ) (before : State) (input output kept : List ℕ) (w : StoreView) (stands0 stands : List ℕ
     → Type 0) (start new : Moment) : Type 0 where
   pub added : List ℕ
   pub gained : Gains stands0 stands added
-  pub reached : Reached e before input (output ++ added) kept w start new
+  pub reached : ServedSoFar e before input (output ++ added) kept w start new
 
 -- a call that took bytes of the source, gave bytes to the sink, and goes on
-pub record TurnedOn (e : ℕ) (before : State) (input output kept : List ℕ) (w : StoreView) (left0 left : Option
+pub record TookFurther (e : ℕ) (before : State) (input output kept : List ℕ) (w : StoreView) (left0 left : Option
     (List ℕ)) (stands0 stands : List ℕ → Type 0) (start new : Moment) : Type 0 where
   pub taken : List ℕ
   pub takes : Takes left0 left taken
-  pub on : SteppedOn e before (input ++ taken) output kept w stands0 stands start new
+  pub on : ShowedFurther e before (input ++ taken) output kept w stands0 stands start new
 
 -- A session between two rounds: it is up, no reply waits, and its store fits on a device of so many blocks.
 pub record IsReady (s : Session) (waiting : Waiting) (blocks : ℕ) : Type 0 where
@@ -58,37 +58,37 @@ pub record IsReady (s : Session) (waiting : Waiting) (blocks : ℕ) : Type 0 whe
 -- from wherever serving has got to, it goes on by these bytes
 abbrev pub GoesOnBy : {D K : Type 0} → Devices D → Sinks K → Session → Session → List ℕ → K → K → D → D → Type 0
 GoesOnBy d k s t bytes sink0 sink old new = (before : State) (input output : List ℕ) (start : Moment)
-    → Reached (extents_of (store_in s)) before input output (kept_in s) (store_in s) start (moment_of d old)
-    → SteppedOn (extents_of (store_in s)) before (input ++ bytes) output (kept_in t) (store_in t) (k.stands sink0)
+    → ServedSoFar (extents_of (store_in s)) before input output (kept_in s) (store_in s) start (moment_of d old)
+    → ShowedFurther (extents_of (store_in s)) before (input ++ bytes) output (kept_in t) (store_in t) (k.stands sink0)
     (k.stands sink) start (moment_of d new)
 
 -- from wherever serving has got to, it ends in these bytes
 abbrev pub EndsIn : {D K : Type 0} → Devices D → Sinks K → Session → Served → List ℕ → K → K → D → D → Type 0
 EndsIn d k s status bytes sink0 sink old new = (before : State) (input output : List ℕ) (start : Moment)
-    → Reached (extents_of (store_in s)) before input output (kept_in s) (store_in s) start (moment_of d old)
-    → IsHalt status × SteppedOver (extents_of (store_in s)) before status (input ++ bytes) output (k.stands sink0)
+    → ServedSoFar (extents_of (store_in s)) before input output (kept_in s) (store_in s) start (moment_of d old)
+    → IsHalt status × EndedShowing (extents_of (store_in s)) before status (input ++ bytes) output (k.stands sink0)
     (k.stands sink) (k.faults sink0) (k.faults sink) start (moment_of d new)
 
 -- from wherever serving has got to, it ends at the end of input
 abbrev pub EndsInput : {K : Type 0} → Sinks K → Session → Served → K → K → Type 0
 EndsInput k s status sink0 sink = (e : ℕ) (before : State) (input output : List ℕ) (start now : Moment)
-    → Reached e before input output (kept_in s) (store_in s) start now
-    → SteppedOver e before status input output (k.stands sink0) (k.stands sink) (k.faults sink0) (k.faults sink) start
+    → ServedSoFar e before input output (kept_in s) (store_in s) start now
+    → EndedShowing e before status input output (k.stands sink0) (k.stands sink) (k.faults sink0) (k.faults sink) start
     now
 
 -- from wherever serving has got to, it goes on by what was taken of the source
 abbrev pub TurnsOn : {S K D : Type 0} → Sources S → Sinks K → Devices D → Session → Session → S → S → K → K → D → D
     → Type 0
 TurnsOn u k d s t source0 source sink0 sink old new = (before : State) (input output : List ℕ) (start : Moment)
-    → Reached (extents_of (store_in s)) before input output (kept_in s) (store_in s) start (moment_of d old)
-    → TurnedOn (extents_of (store_in s)) before input output (kept_in t) (store_in t) (u.left source0) (u.left source)
-    (k.stands sink0) (k.stands sink) start (moment_of d new)
+    → ServedSoFar (extents_of (store_in s)) before input output (kept_in s) (store_in s) start (moment_of d old)
+    → TookFurther (extents_of (store_in s)) before input output (kept_in t) (store_in t) (u.left source0)
+    (u.left source) (k.stands sink0) (k.stands sink) start (moment_of d new)
 
 -- from wherever serving has got to, it ends in what was taken of the source, and no block is damaged
 abbrev pub TurnsOver : {S K D : Type 0} → Sources S → Sinks K → Devices D → Session → Served → S → S → K → K → D → D
     → Type 0
 TurnsOver u k d s status source0 source sink0 sink old new = (before : State) (input output : List ℕ)
     (start : Moment)
-    → Reached (extents_of (store_in s)) before input output (kept_in s) (store_in s) start (moment_of d old)
-    → IsSound status × TurnedOver (extents_of (store_in s)) before status input output (u.left source0)
+    → ServedSoFar (extents_of (store_in s)) before input output (kept_in s) (store_in s) start (moment_of d old)
+    → IsSound status × EndedTaking (extents_of (store_in s)) before status input output (u.left source0)
     (u.left source) (k.stands sink0) (k.stands sink) (k.faults sink0) (k.faults sink) start (moment_of d new)

@@ -1,11 +1,11 @@
 //! Acting a command: the store's event, and the text of its reply, which is not settled.
 
-ghost use Rattle.std.specs.Prelude.{◌≡◌, ℕ, ◌≤◌, true, IfErr, IfOk, IsErrOf, OnErr, OnOk, take};
+ghost use Rattle.std.specs.Prelude.{◌≡◌, ℕ, ◌≤◌, true, None, IfErr, IfOk, IsErrOf, OnErr, OnOk, take};
 ghost use Rattle.lt_language.specs.Valid.{IsWithinLimits};
 ghost use Rattle.lt_line.specs.View.{view_of as command_in};
 ghost use Rattle.lt_store.specs.Open.{blocks_of};
 ghost use Rattle.lt_store.specs.View.{view_of};
-ghost use Rattle.lt_serve.specs.Acting.{AnswersWhereOpen, IsEventOf, LostWhereOpen};
+ghost use Rattle.lt_serve.specs.Acting.{AnswersWhereOpen, IsEventOf, FailsWhereOpen};
 ghost use Rattle.lt_serve.specs.Calls.{ActsOn};
 ghost use Rattle.lt_serve.specs.Faults.{round_fault_of};
 ghost use Rattle.lt_serve.specs.Outcomes.{HasValue, is_taken, most_text};
@@ -28,16 +28,18 @@ pub(super) fn act_command<D: Device>(
     out: &mut Replies,
 ) -> Result<bool, WriteFault>
     requires up { store.old.is_up ≡ true }
+    requires still { (view_of store.old).work.job ≡ None }
     requires limits { IsWithinLimits (command_in command.now) }
     requires within { blocks_of (view_of store.old) ≤ D.blocks device.old }
     requires room { most_text ≤ out.old.room }
 
     ensures ok { IfOk result (λ taken. AnswersWhereOpen D.Device (view_of store.old) (command_in command.now)
         taken out.old out.new (view_of store.new) device.old device.new) }
-    ensures err { IfErr result (λ fault. LostWhereOpen D.Device (view_of store.old) (round_fault_of fault)
+    ensures err { IfErr result (λ fault. FailsWhereOpen D.Device (view_of store.old) (round_fault_of fault)
         device.old device.new) }
     ensures untold { OnErr result (out.new ≡ out.old) }
     ensures up { OnOk result (store.new.is_up ≡ true) }
+    ensures still { OnOk result ((view_of store.new).work.job ≡ None) }
     ensures tells { IfOk result (λ taken. Tells (view_of store.old) (command_in command.now) taken
         out.old out.new (view_of store.new) (D.state device.old) (D.state device.new)) }
     ensures stops { (b : ℕ) → IsErrOf result (WriteFault.Damaged b)

@@ -13,8 +13,8 @@ ghost use Rattle.lt_serve.specs.View.{kept_in, store_in};
 
 use crate::session::Session;
 use lt_device::Device;
+use lt_layout::OpenFault;
 use lt_line::{Lines, Replies};
-use lt_manifest::OpenFault;
 use lt_page::Page;
 use lt_store::Store;
 use std::alloc::Global;

@@ -1,10 +1,10 @@
 //! Rounds: the lines of a piece are acted as one group of writes.
 
-ghost use Rattle.std.specs.Prelude.{◌≡◌, ℕ, ◌<◌, ◌≤◌, true, false, []};
+ghost use Rattle.std.specs.Prelude.{◌≡◌, ℕ, ◌<◌, ◌≤◌, None, true, false, []};
 ghost use Rattle.std.specs.Prelude.{length, take, IfErr, IfOk, IsErrOf, OnErr, OnOk};
 ghost use Rattle.lt_line.specs.Waiting.{all_settled};
 ghost use Rattle.lt_store.specs.Open.{blocks_of};
-ghost use Rattle.lt_serve.specs.Acting.{AnswersHeld, LostWhereOpen};
+ghost use Rattle.lt_serve.specs.Acting.{AnswersHeld, FailsWhereOpen};
 ghost use Rattle.lt_serve.specs.Calls.{RoundActs};
 ghost use Rattle.lt_serve.specs.Outcomes.{most_text};
 ghost use Rattle.lt_serve.specs.Rounds.{BeginsRound, IsActing, ServesLines, StopsInLines, TakesFront, all_text};
@@ -153,12 +153,13 @@ impl Session {
     ) -> Result<(), RoundFault>
         requires down { self.old.is_up ≡ false }
         requires up { self.old.store.is_up ≡ true }
+        requires still { (store_in self.old).work.job ≡ None }
         requires ready { self.old.lines.is_ended ≡ true }
         requires within { blocks_of (store_in self.old) ≤ D.blocks device.old }
         requires room { most_text ≤ out.old.room }
 
         ensures ok { OnOk result (AnswersHeld D.Device self.old self.new out.old out.new device.old device.new) }
-        ensures err { IfErr result (λ fault. LostWhereOpen D.Device (store_in self.old) fault device.old device.new) }
+        ensures err { IfErr result (λ fault. FailsWhereOpen D.Device (store_in self.old) fault device.old device.new) }
         ensures tells { OnOk result (TellsHeld D.Device self.old self.new out.old out.new device.old device.new) }
         ensures stops { (b : ℕ) → IsErrOf result (RoundFault.Damaged b)
             → StopsHeld D.Device self.old device.old b }

@@ -4,7 +4,7 @@ ghost use Rattle.std.specs.Prelude.{◌≡◌};
 ghost use Rattle.lt_serve.specs.Faults.{served_of, unopened_of};
 
 use crate::faults::RoundFault;
-use lt_manifest::OpenFault;
+use lt_layout::OpenFault;
 
 /// How serving ended.
 #[derive(Clone, Copy, Debug, PartialEq, Eq)]

@@ -67,7 +67,7 @@ loop-group-preserved g c =
           let here = ap (λ (s : State). s.shown) c.read_column.ensures.state ∙ before in
           let block = c.in_ok-read_column.ensures.content image before ∙ ap (λ n. block_at image (n + c.args.parts.now.column)) c.extent-first.ensures ∙ ap (λ n. block_at image (extent_block c.args.geometry.now (slice_index c.args.groups.now j) + n)) (column-is c.args.parts.now c.args.key.now c.requires.parts) in
           next-at c.args.geometry.now image c.args.key.now c.args.groups.now c.args.tables.now id last c.loop-group.group j step (omega (arith, c.requires.groups)) c.read_column.new.page c.part_of-part.result.now c.in_ok-version.version c.loop-group.out c.search_tables.new.out _ _ _ _ (so_far.so_far image id told last) c.read_column.ensures.count block c.part_of-part.ensures (c.in_ok-version.ensures.searched image id j here) none;
-      out = same_page c.in_ok-version.version c.loop-group.out c.search_tables.new.out none c.in_ok-version.ensures.page ∙ so_far.out;
+      out = same_page c.in_ok-version.version c.loop-group.out c.search_tables.new.out none c.in_ok-version.ensures.ends.page ∙ so_far.out;
       calls = reads_more (group-count (λ (x : ℕ). true) c.args.tables.now c.part_of-part.result.now (length c.args.groups.now) c.loop-group.group j step (omega arith) c.part_of-part.ensures) read c.search_tables.ensures.calls;
     }
 
@@ -80,10 +80,15 @@ returns-clause-searched g c = λ image id told last.
     subst (λ (page : List ℕ). Searched asks path_reads c.args.geometry.now image c.args.key.now (pile_stops id 0 c.args.tables.now) (Ok None) c.args.out.now page (g.D.Device.reads c.args.device.now) (g.D.Device.reads c.loop-group.device)) (sym so_far.out)
     (group-all asks c.args.geometry.now image c.args.key.now (pile_stops id 0 c.args.tables.now) c.args.out.now _ _ at_end)
 
-pub returns-in_err-version-clause-damaged_block : goal.returns-in_err-version-clause-damaged_block
-returns-in_err-version-clause-damaged_block g c = λ b is.
-    let was : IsErrOf c.search_tables.result (Damaged b) = search rules in
-    part-bucket c.args.geometry.now c.args.tables.now c.part_of-part.result.now (c.loop-group.group - 1) b c.part_of-part.ensures (c.search_tables.ensures.damaged_block b was)
+pub returns-in_err-version-clause-ends : goal.returns-in_err-version-clause-ends
+returns-in_err-version-clause-ends g c = record {
+  short = search rules;
+  page = search rules;
+  damaged = search rules;
+  damaged_block = λ b is.
+      let was : IsErrOf c.search_tables.result (Damaged b) = search rules in
+      part-bucket c.args.geometry.now c.args.tables.now c.part_of-part.result.now (c.loop-group.group - 1) b c.part_of-part.ensures (c.search_tables.ensures.ends.damaged_block b was);
+}
 
 pub returns-in_err-version-clause-calls : goal.returns-in_err-version-clause-calls
 returns-in_err-version-clause-calls g c =

@@ -59,7 +59,7 @@ loop-level-preserved g c =
       so_far = λ image told.
           let here = ap (λ (s : State). s.shown) so_far.calls.state ∙ told in
           level-next c.args.geometry.now c.args.filters.now image c.args.trie.now.nodes key m c.pile-tables.result.now tables_are c.in_ok-version.version c.loop-level.out c.search_tables.new.out _ _ _ (so_far.so_far image told) (c.in_ok-version.ensures.searched image (path key m) 0 here) none;
-      out = same_page c.in_ok-version.version c.loop-level.out c.search_tables.new.out none c.in_ok-version.ensures.page ∙ so_far.out;
+      out = same_page c.in_ok-version.version c.loop-level.out c.search_tables.new.out none c.in_ok-version.ensures.ends.page ∙ so_far.out;
       calls = reads_more (let more = ap (inner_asked c.args.filters.now c.args.trie.now.nodes key) (add-one m) ∙ asked-more c.args.filters.now c.args.trie.now.nodes key m in let same = ap (λ (xs : List ℕ). count_by (may_hold c.args.filters.now key) xs) tables_are in omega (arith, more, same)) so_far.calls c.search_tables.ensures.calls;
     }
 
@@ -72,15 +72,20 @@ returns-clause-searched g c = λ image told.
     subst (λ (page : List ℕ). Searched asks bucket_reads c.args.geometry.now image c.args.key.now (stops (c.args.geometry.now.levels - 1) c.args.trie.now.nodes c.args.key.now) (Ok None) c.args.out.now page (g.D.Device.reads c.args.device.now) (g.D.Device.reads c.loop-level.device)) (sym so_far.out)
     (all asks c.args.geometry.now image c.args.key.now (stops (c.args.geometry.now.levels - 1) c.args.trie.now.nodes c.args.key.now) c.args.out.now _ _ at_end)
 
-pub returns-in_err-version-clause-damaged_block : goal.returns-in_err-version-clause-damaged_block
-returns-in_err-version-clause-damaged_block g c = λ b is.
-    let was : IsErrOf c.search_tables.result (Damaged b) = search rules in
-    let tables_are = c.pile-tables.ensures ∙ ap (λ (id : NodeId). (node_at c.args.trie.now.nodes id).tables) (c.path.ensures c.args.key.now c.requires.parts) in
-    record {
-      level = c.loop-level.level;
-      deep = omega (arith, c.loop-level-test.true, c.levels-levels.ensures.count, c.requires.levels);
-      bucket = subst (λ xs. IsBucketOf c.args.geometry.now xs b) tables_are (c.search_tables.ensures.damaged_block b was);
-    }
+pub returns-in_err-version-clause-ends : goal.returns-in_err-version-clause-ends
+returns-in_err-version-clause-ends g c = record {
+  short = search rules;
+  page = search rules;
+  damaged = search rules;
+  damaged_block = λ b is.
+      let was : IsErrOf c.search_tables.result (Damaged b) = search rules in
+      let tables_are = c.pile-tables.ensures ∙ ap (λ (id : NodeId). (node_at c.args.trie.now.nodes id).tables) (c.path.ensures c.args.key.now c.requires.parts) in
+      record {
+        level = c.loop-level.level;
+        deep = omega (arith, c.loop-level-test.true, c.levels-levels.ensures.count, c.requires.levels);
+        bucket = subst (λ xs. IsBucketOf c.args.geometry.now xs b) tables_are (c.search_tables.ensures.ends.damaged_block b was);
+      };
+}
 
 pub returns-in_err-version-clause-calls : goal.returns-in_err-version-clause-calls
 returns-in_err-version-clause-calls g c =

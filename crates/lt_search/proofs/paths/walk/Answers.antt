@@ -9,6 +9,8 @@ use Rattle.lt_format.specs.Trie.{groups_for, node_at, path}
 use Rattle.lt_image.specs.Versions.{stops}
 use Rattle.lt_image.proofs.MapLaws.{named-tables}
 use Rattle.lt_search.specs.declared.version.Version.{Version}
+use Rattle.lt_htable.specs.Reading.{IsNoBucket}
+use Rattle.lt_search.specs.Found.{KeepsUnless}
 use Rattle.lt_search.specs.Asking.{asks_kept, is_asked, most_reads}
 use Rattle.lt_search.specs.Seen.{asks_group}
 use Rattle.lt_search.specs.Reads.{bucket_reads, path_reads}
@@ -59,7 +61,7 @@ returns-clause-searched g c = λ image told.
     let tables_are = c.pile-tables.ensures ∙ ap (λ (id : NodeId). (node_at nodes id).tables) node in
     let groups_are = c.groups-groups.ensures ∙ ap (λ (id : NodeId). (node_at nodes id).groups) node in
     let none = sym c.is_some.ensures ∙ c.if-is_some.false in
-    let same = same_page c.in_ok-found.found c.args.out.now c.search_inner.new.out none c.in_ok-found.ensures.page in
+    let same = same_page c.in_ok-found.found c.args.out.now c.search_inner.new.out none c.in_ok-found.ensures.ends.page in
     let here = ap (λ (s : State). s.shown) c.search_inner.ensures.calls.state ∙ told in
     let first = subst (λ (v : Option Version). Searched (asks_kept c.args.filters.now key) bucket_reads c.args.geometry.now image key (stops n nodes key) (Ok v) c.args.out.now c.search_inner.new.out (g.D.Device.reads c.args.device.now) (g.D.Device.reads c.search_inner.new.device)) (none-is c.in_ok-found.found none) (c.in_ok-found.ensures.searched image told) in
     let second = c.search_groups.ensures.searched image (path key n) here (last-level c.args.geometry.now c.args.filters.now image nodes key n levels) in
@@ -68,16 +70,24 @@ returns-clause-searched g c = λ image told.
     subst (λ (page : List ℕ). Searched (is_asked c.args.geometry.now c.args.filters.now image nodes key) path_reads c.args.geometry.now image key (stops c.args.geometry.now.levels nodes key) c.search_groups.result page c.search_groups.new.out (g.D.Device.reads c.args.device.now) (g.D.Device.reads c.search_groups.new.device)) same
     (ended-last c.args.geometry.now c.args.filters.now image nodes key n levels c.search_groups.result c.args.out.now c.search_inner.new.out c.search_groups.new.out _ _ _ first in_groups)
 
-pub returns-clause-damaged_block : goal.returns-clause-damaged_block
-returns-clause-damaged_block g c = λ b is.
+pub returns-clause-ends : goal.returns-clause-ends
+returns-clause-ends g c =
     let key : List ℕ = c.args.key.now in
     let n : ℕ = c.args.geometry.now.levels - 1 in
     let top : c.levels.result - 1 ≡ n = ap (λ m. m - 1) (c.levels.ensures.count ∙ c.requires.levels) in
     let node = c.path-last.ensures key c.requires.parts ∙ ap (path key) top in
+    let none = sym c.is_some.ensures ∙ c.if-is_some.false in
+    let same = same_page c.in_ok-found.found c.args.out.now c.search_inner.new.out none c.in_ok-found.ensures.ends.page in
+    let done = c.search_groups.ensures.ends in
     record {
-      level = n;
-      deep = omega (arith, c.levels.ensures.trie.least, c.requires.levels);
-      bucket = subst (λ xs. IsBucketOf c.args.geometry.now xs b) (c.pile-tables.ensures ∙ ap (λ (id : NodeId). (node_at c.args.trie.now.nodes id).tables) node) (c.search_groups.ensures.damaged_block b is);
+      short = done.short;
+      page = subst (λ (page : List ℕ). KeepsUnless c.search_groups.result page c.search_groups.new.out) same done.page;
+      damaged = λ b is. subst (λ (s : State). IsNoBucket s.shown b) c.search_inner.ensures.calls.state (done.damaged b is);
+      damaged_block = λ b is. record {
+        level = n;
+        deep = omega (arith, c.levels.ensures.trie.least, c.requires.levels);
+        bucket = subst (λ xs. IsBucketOf c.args.geometry.now xs b) (c.pile-tables.ensures ∙ ap (λ (id : NodeId). (node_at c.args.trie.now.nodes id).tables) node) (done.damaged_block b is);
+      };
     }
 
 pub returns-clause-calls : goal.returns-clause-calls

@@ -1,4 +1,4 @@
-use Rattle.std.proofs.Common.{◌≡◌, ℕ, refl, ap, subst, List, Ok, Err, Some, None, Option}
+use Rattle.std.proofs.Common.{rules, ◌≡◌, ℕ, refl, ap, subst, List, Ok, Err, Some, None, Option}
 use Rattle.std.specs.Option.{option_map}
 use Rattle.lt_terms.specs.Bytes.{Image}
 use Rattle.lt_terms.specs.Items.{Item}
@@ -42,8 +42,13 @@ returns-in-Ok-None-clause-reads g c = λ image told. counts-look image c.args.fi
 pub returns-in-Err-clause-reads : goal.returns-in-Err-clause-reads
 returns-in-Err-clause-reads g c = λ image told. counts-look image c.args.first c.args.key.now _ _ c.look.ensures.calls.count (c.look.ensures.once image told)
 
-pub returns-in-Err-clause-damaged_block : goal.returns-in-Err-clause-damaged_block
-returns-in-Err-clause-damaged_block g c = λ b is.
-    let damaged : c.look.result ≡ Err (Damaged b) = cc (c.in-Err.is, is) in
-    let found = looked_up-damaged _ c.args.first c.args.key.now b (rw damaged at c.look.ensures.answer) in
-    (found.column, found.within, found.is)
+pub returns-in-Err-clause-ends : goal.returns-in-Err-clause-ends
+returns-in-Err-clause-ends g c = record {
+  short = search rules;
+  page = search rules;
+  damaged = search rules;
+  damaged_block = λ b is.
+      let damaged : c.look.result ≡ Err (Damaged b) = cc (c.in-Err.is, is) in
+      let found = looked_up-damaged _ c.args.first c.args.key.now b (rw damaged at c.look.ensures.answer) in
+      (found.column, found.within, found.is);
+}

@@ -55,7 +55,7 @@ loop-i-preserved-else-is_some g c =
           let here = ap (λ (s : State). s.shown) so_far.calls.state ∙ told in
           pile-next (asks_of c.args.filters.now key) c.args.geometry.now image key id (64 * group) tables c.loop-i.i j step below c.extent-first.result c.extent-first.ensures (placed-answer c.args.filters.now key group j (get_or tables j 0) ∙ answered)
           c.in_ok-version.version c.loop-i.out c.look_into.new.out _ _ _ (so_far.so_far image id group told) none (c.in_ok-version.ensures.seen image here) (c.look_into.ensures.reads image here);
-      out = same_page c.in_ok-version.version c.loop-i.out c.look_into.new.out none c.in_ok-version.ensures.page ∙ so_far.out;
+      out = same_page c.in_ok-version.version c.loop-i.out c.look_into.new.out none c.in_ok-version.ensures.ends.page ∙ so_far.out;
       calls = record {
         state = done.state ∙ so_far.calls.state;
         size = done.size ∙ so_far.calls.size;

@@ -7,7 +7,7 @@ use Rattle.lt_line.specs.View.{view_of as command_in}
 use Rattle.lt_store.specs.Acting.{write_of}
 use Rattle.lt_store.specs.Open.{IsOpen}
 use Rattle.lt_store.specs.View.{view_of}
-use Rattle.lt_serve.specs.Acting.{Answers, Lost}
+use Rattle.lt_serve.specs.Acting.{CommandAnswered, CommandFailed}
 use Rattle.lt_serve.specs.Faults.{round_fault_of}
 use Rattle.lt_store.specs.declared.counts.Stat.{Stat}
 use Rattle.lt_serve.specs.Promise.{moment_of}
@@ -32,8 +32,8 @@ returns-in_err-outcome-in-Ok-clause-err g c =
     let old = moment_of g.D.Device c.args.device.now in
     let after = moment_of g.D.Device c.act.new.device in
     let fault = err_from_is_err_and c.from_residual.result c.from_residual.ensures.1 in
-    subst (λ r. IfErr r (λ f. (durable : State) → IsOpen (view_of c.args.store.now) durable device → Lost (view_of c.args.store.now) durable (round_fault_of f) old after)) (sym fault.1)
-    (λ durable opened. subst (λ f. Lost (view_of c.args.store.now) durable (round_fault_of f) old after) (sym fault.2)
+    subst (λ r. IfErr r (λ f. (durable : State) → IsOpen (view_of c.args.store.now) durable device → CommandFailed (view_of c.args.store.now) durable (round_fault_of f) old after)) (sym fault.1)
+    (λ durable opened. subst (λ f. CommandFailed (view_of c.args.store.now) durable (round_fault_of f) old after) (sym fault.2)
     (lost-event (view_of c.args.store.now) (view_of c.act.new.self) durable c.in_err-outcome-in-Ok.field-0.0 c.act.new.self.is_up old after opened (reads-event (write_of c.in-Ok.event) _ _ _ c.act.ensures.count c.act.ensures.in_place.count)
     (c.in_err-outcome-in-Ok.ensures.broken durable opened) (λ up. c.in_err-outcome-in-Ok.ensures.goes_on up durable opened)
     (λ down. search rules) (λ b is. c.act.ensures.sound b durable opened (search rules))))
@@ -51,9 +51,9 @@ returns-in_ok-outcome-in-Ok-clause-ok g c = λ durable opened.
     let out = c.in_ok-outcome-in-Ok in
     let old = moment_of g.D.Device c.args.device.now in
     let new = moment_of g.D.Device c.act.new.device in
-    subst (λ taken. Answers (view_of c.args.store.now) durable (command_in c.args.command.now) taken c.args.out.now c.add_outcome.new.out (view_of c.act.new.self) old new) (sym c.is_taken.ensures)
+    subst (λ taken. CommandAnswered (view_of c.args.store.now) durable (command_in c.args.command.now) taken c.args.out.now c.add_outcome.new.out (view_of c.act.new.self) old new) (sym c.is_taken.ensures)
     (answers-event (view_of c.args.store.now) (view_of c.act.new.self) durable c.in-Ok.event (command_in c.args.command.now) out.outcome c.act.new.out c.found.result.now c.args.out.now c.add_outcome.new.out old new c.in-Ok.ensures.0
-    (out.ensures.step durable opened) (out.ensures.goes durable opened) (λ asks. (c.act.ensures.asked asks).1) (λ n f same idle. ap g.D.Device.state (c.act.ensures.in_place.full_quiet n f (c.in_ok-outcome-in-Ok.was ∙ ap Ok same) idle)) (IfSome_then (write_of c.in-Ok.event) c.act.ensures.writes (λ item w. λ same. ap g.D.Device.state (w.unchanged (c.in_ok-outcome-in-Ok.was ∙ ap Ok same)).1))
+    (out.ensures.step durable opened (λ needed free is. c.requires.still)) (out.ensures.goes durable opened) (λ asks. (c.act.ensures.asked asks).1) (λ n f same idle. ap g.D.Device.state (c.act.ensures.in_place.full_quiet n f (c.in_ok-outcome-in-Ok.was ∙ ap Ok same) idle)) (IfSome_then (write_of c.in-Ok.event) c.act.ensures.writes (λ item w. λ same. ap g.D.Device.state (w.unchanged (c.in_ok-outcome-in-Ok.was ∙ ap Ok same)).1))
     (reads-event (write_of c.in-Ok.event) _ _ _ c.act.ensures.count c.act.ensures.in_place.count) (past-stays _ _ opened.rest.image opened.rest.tells (out.ensures.goes durable opened).survives)
     (λ x same. let told = c.act.ensures.stat x (out.was ∙ ap Ok same) in record { reads = ap (λ (y : Stat). y.reads) told.is; few = told.few; images = told.images durable opened }) c.found.ensures.front c.found.ensures.value c.add_outcome.ensures.short c.requires.room c.add_outcome.ensures.text)
 
@@ -65,7 +65,7 @@ returns-in_ok-outcome-in-Ok-clause-device g c =
 pub returns-in-Err-clause-ok : goal.returns-in-Err-clause-ok
 returns-in-Err-clause-ok g c = λ durable opened.
     let device = moment_of g.D.Device c.args.device.now in
-    subst (λ (command : Command). Answers (view_of c.args.store.now) durable command false c.args.out.now c.add_bad.new.out (view_of c.args.store.now) device device) (sym c.in-Err.ensures)
+    subst (λ (command : Command). CommandAnswered (view_of c.args.store.now) durable command false c.args.out.now c.add_bad.new.out (view_of c.args.store.now) device device) (sym c.in-Err.ensures)
     (answers-bad (view_of c.args.store.now) durable c.in-Err.kind c.args.out.now c.add_bad.new.out device opened c.add_bad.ensures.short c.requires.room c.add_bad.ensures.text)
 
 pub returns-in-Err-clause-device : goal.returns-in-Err-clause-device

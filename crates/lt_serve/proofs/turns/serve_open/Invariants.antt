@@ -3,7 +3,7 @@ use Rattle.lt_terms.specs.Causes.{RoseBy}
 use Rattle.lt_language.specs.Machine.{State}
 use Rattle.lt_store.specs.Open.{IsOpen, extents_of}
 use Rattle.lt_serve.specs.Promise.{GainsSome, moment_of}
-use Rattle.lt_serve.specs.Serving.{IsReady, TurnedOn}
+use Rattle.lt_serve.specs.Serving.{IsReady, TookFurther}
 use Rattle.lt_serve.specs.Sizes.{SameSizes}
 use Rattle.lt_serve.specs.View.{kept_in, store_in}
 use Rattle.lt_serve.proofs.turns.serve_open.Given as goal
@@ -27,5 +27,5 @@ invariant-loop-number g l = record {
   sees : (image : Image) → (g.D.Device.state l.fn.device).shown ≡ Some image → (taken : List ℕ) × Takes (g.S.Source.left l.fn.source) (g.S.Source.left l.source) taken
       × SeesMore (seen_of (store_in l.fn.session) image) taken [] (g.K.Sink.stands l.fn.sink) (g.K.Sink.stands l.sink) (StaysBehind taken (kept_in l.session) (store_in l.fn.session) (store_in l.session) (g.D.Device.state l.fn.device) (g.D.Device.state l.device));
   on : (before : State) → IsOpen (store_in l.fn.session) before (g.D.Device.state l.fn.device)
-      → TurnedOn (extents_of (store_in l.fn.session)) before [] [] (kept_in l.session) (store_in l.session) (g.S.Source.left l.fn.source) (g.S.Source.left l.source) (g.K.Sink.stands l.fn.sink) (g.K.Sink.stands l.sink) (moment_of g.D.Device l.fn.device) (moment_of g.D.Device l.device);
+      → TookFurther (extents_of (store_in l.fn.session)) before [] [] (kept_in l.session) (store_in l.session) (g.S.Source.left l.fn.source) (g.S.Source.left l.source) (g.K.Sink.stands l.fn.sink) (g.K.Sink.stands l.sink) (moment_of g.D.Device l.fn.device) (moment_of g.D.Device l.device);
 }

@@ -2,8 +2,8 @@ use Rattle.std.proofs.Common.{◌≡◌, ◌≤◌, ℕ, List, ◌++◌, take, d
 use Rattle.std.proofs.lemmas.List.{take_all, take_rest}
 use Rattle.lt_serve.specs.declared.served.Served.TheVariants as served
 use Rattle.lt_serve.specs.Faults.{IsHalt}
-use Rattle.lt_serve.specs.Serving.{SteppedOn}
-use Rattle.lt_serve.specs.Promise.{SteppedOver, moment_of}
+use Rattle.lt_serve.specs.Serving.{ShowedFurther}
+use Rattle.lt_serve.specs.Promise.{EndedShowing, moment_of}
 use Rattle.lt_serve.specs.View.{kept_in, store_in}
 use Rattle.lt_store.specs.Open.{extents_of}
 use Rattle.lt_serve.proofs.LineLaws.{taken-and-slice, taken-and-more}
@@ -27,7 +27,7 @@ loop-at-init g c = record {
   sink_gains = gains_some-none _;
   sees = λ v image input output start shown s. subst (λ (bytes : List ℕ). SeesMore (seen_of v image) bytes output (g.K.Sink.stands c.args.sink.now) (g.K.Sink.stands c.args.sink.now) (StaysBehind bytes (kept_in c.args.session.now) v (store_in c.args.session.now) start (g.D.Device.state c.args.device.now))) (sym (append-nil input))
       (more-none (seen_of v image) input output _ _ s);
-  on = λ before input output start r. subst (λ (bytes : List ℕ). SteppedOn (extents_of (store_in c.args.session.now)) before bytes output (kept_in c.args.session.now) (store_in c.args.session.now) (g.K.Sink.stands c.args.sink.now) (g.K.Sink.stands c.args.sink.now) start (moment_of g.D.Device c.args.device.now)) (sym (append-nil input))
+  on = λ before input output start r. subst (λ (bytes : List ℕ). ShowedFurther (extents_of (store_in c.args.session.now)) before bytes output (kept_in c.args.session.now) (store_in c.args.session.now) (g.K.Sink.stands c.args.sink.now) (g.K.Sink.stands c.args.sink.now) start (moment_of g.D.Device c.args.device.now)) (sym (append-nil input))
       (on-none _ before input output _ _ _ start _ r);
 }
 
@@ -38,7 +38,7 @@ returns-in_err-at-clause-over g c =
     at-exit c.from_residual.result _ _ c.from_residual.ensures.1 (
       (λ before input output start r.
           let s = c.loop-at.invariant.on before input output start r in
-          subst (λ (bytes : List ℕ). IsHalt c.in_err-at.field-0.0 × SteppedOver (extents_of (store_in c.args.session.now)) before c.in_err-at.field-0.0 bytes output (g.K.Sink.stands c.args.sink.now) (g.K.Sink.stands c.step.new.sink) (g.K.Sink.faults c.args.sink.now) (g.K.Sink.faults c.step.new.sink) start (moment_of g.D.Device c.step.new.device)) (taken-and-slice input piece c.loop-at.at)
+          subst (λ (bytes : List ℕ). IsHalt c.in_err-at.field-0.0 × EndedShowing (extents_of (store_in c.args.session.now)) before c.in_err-at.field-0.0 bytes output (g.K.Sink.stands c.args.sink.now) (g.K.Sink.stands c.step.new.sink) (g.K.Sink.faults c.args.sink.now) (g.K.Sink.faults c.step.new.sink) start (moment_of g.D.Device c.step.new.device)) (taken-and-slice input piece c.loop-at.at)
           (on-over _ before (input ++ take c.loop-at.at piece) output _ _ _ _ start _ s _ c.loop-at.invariant.sizes.extents c.in_err-at.field-0.0 _ _ _ _ _ _ c.loop-at.invariant.sink_later ((c.in_err-at.ensures.over short).0 before (input ++ take c.loop-at.at piece) (output ++ s.added) start))),
       (λ v image input output start shown s.
           let m = c.loop-at.invariant.sees v image input output start shown s in
@@ -68,7 +68,7 @@ loop-at-preserved g c =
           (more-twice (seen_of v image) before _ output _ _ _ _ _ m (step.on.1 v image before (output ++ m.added) start shown m.lines));
       on = λ before input output start r.
           let s = so_far.on before input output start r in
-          subst (λ (bytes : List ℕ). SteppedOn (extents_of (store_in c.args.session.now)) before bytes output (kept_in c.step.new.session) (store_in c.step.new.session) (g.K.Sink.stands c.args.sink.now) (g.K.Sink.stands c.step.new.sink) start (moment_of g.D.Device c.step.new.device)) (taken-and-more input piece c.loop-at.at c.in_ok-at.field-0)
+          subst (λ (bytes : List ℕ). ShowedFurther (extents_of (store_in c.args.session.now)) before bytes output (kept_in c.step.new.session) (store_in c.step.new.session) (g.K.Sink.stands c.args.sink.now) (g.K.Sink.stands c.step.new.sink) start (moment_of g.D.Device c.step.new.device)) (taken-and-more input piece c.loop-at.at c.in_ok-at.field-0)
           (on-on _ before (input ++ take c.loop-at.at piece) output _ _ _ _ start _ s _ so_far.sizes.extents _ _ _ _ _ (step.on.0 before (input ++ take c.loop-at.at piece) (output ++ s.added) start));
     }
 
@@ -76,7 +76,7 @@ pub returns-clause-on : goal.returns-clause-on
 returns-clause-on g c = (
   (λ before input output start r.
       let whole : take c.loop-at.at c.args.piece.now ≡ c.args.piece.now = take_all c.loop-at.at c.args.piece.now (omega arith) in
-      subst (λ (taken : List ℕ). SteppedOn (extents_of (store_in c.args.session.now)) before (input ++ taken) output (kept_in c.loop-at.session) (store_in c.loop-at.session) (g.K.Sink.stands c.args.sink.now) (g.K.Sink.stands c.loop-at.sink) start (moment_of g.D.Device c.loop-at.device)) whole (c.loop-at.invariant.on before input output start r)),
+      subst (λ (taken : List ℕ). ShowedFurther (extents_of (store_in c.args.session.now)) before (input ++ taken) output (kept_in c.loop-at.session) (store_in c.loop-at.session) (g.K.Sink.stands c.args.sink.now) (g.K.Sink.stands c.loop-at.sink) start (moment_of g.D.Device c.loop-at.device)) whole (c.loop-at.invariant.on before input output start r)),
   (λ v image input output start shown s.
       let whole : take c.loop-at.at c.args.piece.now ≡ c.args.piece.now = take_all c.loop-at.at c.args.piece.now (omega arith) in
       subst (λ (taken : List ℕ). SeesMore (seen_of v image) (input ++ taken) output (g.K.Sink.stands c.args.sink.now) (g.K.Sink.stands c.loop-at.sink) (StaysBehind (input ++ taken) (kept_in c.loop-at.session) v (store_in c.loop-at.session) start (g.D.Device.state c.loop-at.device))) whole (c.loop-at.invariant.sees v image input output start shown s)),

@@ -1,7 +1,7 @@
 use Rattle.std.proofs.Common.{◌≤◌, ◌<◌, ℕ, List, ◌++◌, take, drop, length, subst, sym, ◌∙◌, append-nil, length-drop, refl, arith, Bool}
 use Rattle.std.proofs.lemmas.List.{take_rest}
 use Rattle.lt_store.specs.Open.{extents_of}
-use Rattle.lt_serve.specs.Rounds.{Stopped, Went}
+use Rattle.lt_serve.specs.Rounds.{RoundFailed, LinesActed}
 use Rattle.lt_serve.specs.Promise.{moment_of}
 use Rattle.lt_serve.specs.View.{kept_in, store_in}
 use Rattle.lt_serve.proofs.LineLaws.{taken-and-slice, taken-and-more}
@@ -30,8 +30,8 @@ loop-at-init g c =
           subst (λ (bytes : List ℕ). Sees (store_in s) image bytes (kept_in s) s.wrote c.args.out.now c.args.out.now (store_in s) device device) (sym (append-nil line))
           (sees-none (store_in s) image line (kept_in s) s.wrote c.args.out.now device free held c.requires.begun.durable c.requires.begun.none c.requires.begun.settled);
       went = λ durable line opened free held.
-          subst (λ (bytes : List ℕ). Went (store_in s) durable bytes (kept_in s) s.wrote c.args.out.now c.args.out.now (store_in s) now now) (sym (append-nil line))
-          (subst (λ (wrote : Bool). Went (store_in s) durable line (kept_in s) wrote c.args.out.now c.args.out.now (store_in s) now now) (sym c.requires.begun.none)
+          subst (λ (bytes : List ℕ). LinesActed (store_in s) durable bytes (kept_in s) s.wrote c.args.out.now c.args.out.now (store_in s) now now) (sym (append-nil line))
+          (subst (λ (wrote : Bool). LinesActed (store_in s) durable line (kept_in s) wrote c.args.out.now c.args.out.now (store_in s) now now) (sym c.requires.begun.none)
           (went-none (store_in s) durable line (kept_in s) c.args.out.now now opened free held c.requires.begun.settled));
     }
 
@@ -53,7 +53,7 @@ loop-at-preserved g c =
           subst (λ (bytes : List ℕ). Sees (store_in s) image bytes (kept_in c.advance.new.self) c.advance.new.self.wrote c.args.out.now c.advance.new.out (store_in c.advance.new.self) (g.D.Device.state c.args.device.now) (g.D.Device.state c.advance.new.device)) (taken-and-more line c.args.piece.now c.loop-at.at c.in_ok-at.field-0)
           (more.ok.1 (store_in s) image (line ++ take c.loop-at.at c.args.piece.now) c.args.out.now (g.D.Device.state c.args.device.now) shown (kept.sees image line shown free held));
       went = λ durable line opened free held.
-          subst (λ (bytes : List ℕ). Went (store_in s) durable bytes (kept_in c.advance.new.self) c.advance.new.self.wrote c.args.out.now c.advance.new.out (store_in c.advance.new.self) (moment_of g.D.Device c.args.device.now) (moment_of g.D.Device c.advance.new.device)) (taken-and-more line c.args.piece.now c.loop-at.at c.in_ok-at.field-0)
+          subst (λ (bytes : List ℕ). LinesActed (store_in s) durable bytes (kept_in c.advance.new.self) c.advance.new.self.wrote c.args.out.now c.advance.new.out (store_in c.advance.new.self) (moment_of g.D.Device c.args.device.now) (moment_of g.D.Device c.advance.new.device)) (taken-and-more line c.args.piece.now c.loop-at.at c.in_ok-at.field-0)
           (more.ok.0 (store_in s) durable (line ++ take c.loop-at.at c.args.piece.now) c.args.out.now (moment_of g.D.Device c.args.device.now) opened kept.sizes.extents (kept.went durable line opened free held));
     }
 
@@ -65,7 +65,7 @@ returns-in_err-at-clause-err g c =
     let held = c.advance.new.self.lines in
     let out : List ℕ = c.advance.new.out.settled_text in
     at-exit c.from_residual.result c.in_err-at.field-0.0 _ c.from_residual.ensures.1 (
-      (λ durable line opened free was. (subst (λ (bytes : List ℕ). Stopped (extents_of (store_in s)) durable bytes held c.in_err-at.field-0.0 c.args.out.now out device after) (taken-and-slice line c.args.piece.now c.loop-at.at)
+      (λ durable line opened free was. (subst (λ (bytes : List ℕ). RoundFailed (extents_of (store_in s)) durable bytes held c.in_err-at.field-0.0 c.args.out.now out device after) (taken-and-slice line c.args.piece.now c.loop-at.at)
           (c.in_err-at.ensures.err.0 (store_in s) durable (line ++ take c.loop-at.at c.args.piece.now) c.args.out.now device opened c.loop-at.invariant.sizes.extents c.requires.begun.durable (c.loop-at.invariant.went durable line opened free was)))),
       (λ image line shown free held.
           let s = c.args.self.now in

@@ -5,7 +5,7 @@ use Rattle.lt_language.specs.Commands.{line_feed}
 use Rattle.lt_line.specs.Held.{HeldLine}
 use Rattle.lt_line.specs.Waiting.{Waiting}
 use Rattle.lt_store.specs.Open.{extents_of}
-use Rattle.lt_serve.specs.Rounds.{Stopped, Went}
+use Rattle.lt_serve.specs.Rounds.{RoundFailed, LinesActed}
 use Rattle.lt_serve.specs.Promise.{moment_of}
 use Rattle.lt_serve.specs.View.{kept_in, store_in}
 use Rattle.lt_serve.proofs.CallLaws.{acts-ok, acts-fail}
@@ -33,7 +33,7 @@ returns-in_err-answer-clause-err g c =
     let same_line = c.in_err-answer.ensures.untold.1 in
     let whole : (ends.chunk ++ line_feed ∷ []) ++ drop n piece ≡ piece = ap (λ xs. xs ++ drop n piece) (sym ends.taken_is) ∙ take-append-drop n piece in
     at-exit c.from_residual.result c.in_err-answer.field-0.0 _ c.from_residual.ensures.1 (
-      (λ v durable bytes waiting0 start opened same nothing went. (subst (λ (more : List ℕ). Stopped (extents_of v) durable (bytes ++ more) held c.in_err-answer.field-0.0 waiting0 out start after) whole
+      (λ v durable bytes waiting0 start opened same nothing went. (subst (λ (more : List ℕ). RoundFailed (extents_of v) durable (bytes ++ more) held c.in_err-answer.field-0.0 waiting0 out start after) whole
           (stopped-line v durable bytes (kept_in s) s.wrote waiting0 c.args.out.now (store_in s) start device went nothing ends.chunk (drop n piece) out held c.in_err-answer.field-0.0 after
           (c.in_err-answer.ensures.err (after_writes durable (take went.goes.sure (v.log.pending ++ went.writes))) went.goes.opened) (ap (λ (w : Waiting). w.settled_text) c.in_err-answer.ensures.untold.0)
           ends.unbroken (ap (λ (h : HeldLine). h.is_ended) same_line ∙ ready) (ap (λ (h : HeldLine). h.kept) same_line ∙ ends.kept_is)))),
@@ -60,8 +60,8 @@ returns-in_ok-answer-clause-ok g c = (
       let now = after_writes durable (take went.goes.sure (v.log.pending ++ went.writes)) in
       let answered = c.in_ok-answer.ensures.ok _ now (kept-line v durable bytes ends.chunk (kept_in s) c.feed-taken.new.self.kept s.wrote waiting0 c.args.out.now (store_in s) start device went ends.kept_is) went.goes.opened in
       let line : [] ≡ kept_in c.answer.new.self = sym c.in_ok-answer.ensures.next in
-      subst (λ (kept : List ℕ). Went v durable (bytes ++ take c.feed-taken.result c.args.piece.now) kept c.answer.new.self.wrote waiting0 c.answer.new.out (store_in c.answer.new.self) start after) line
-      (subst (λ (taken : List ℕ). Went v durable (bytes ++ taken) [] c.answer.new.self.wrote waiting0 c.answer.new.out (store_in c.answer.new.self) start after) (sym ends.taken_is)
+      subst (λ (kept : List ℕ). LinesActed v durable (bytes ++ take c.feed-taken.result c.args.piece.now) kept c.answer.new.self.wrote waiting0 c.answer.new.out (store_in c.answer.new.self) start after) line
+      (subst (λ (taken : List ℕ). LinesActed v durable (bytes ++ taken) [] c.answer.new.self.wrote waiting0 c.answer.new.out (store_in c.answer.new.self) start after) (sym ends.taken_is)
       (went-line v durable bytes ends.chunk (kept_in s) s.wrote waiting0 c.args.out.now (store_in s) start device went opened ends.unbroken c.answer.new.out (store_in c.answer.new.self) after c.answer.new.self.wrote answered same))),
   (λ v image before waiting0 start shown s.
       let self = c.args.self.now in
@@ -83,7 +83,7 @@ returns-else-ready-clause-ok g c = (
       let piece = c.args.piece.now in
       let all = c.feed-taken.ensures.goes_on (sym c.ready.ensures ∙ c.if-ready.false) in
       let whole : piece ≡ take c.feed-taken.result piece = sym (take_all c.feed-taken.result piece (omega (arith, all.0))) in
-      subst (λ (taken : List ℕ). Went v durable (bytes ++ taken) c.feed-taken.new.self.kept s.wrote waiting0 c.args.out.now (store_in s) start device) whole
+      subst (λ (taken : List ℕ). LinesActed v durable (bytes ++ taken) c.feed-taken.new.self.kept s.wrote waiting0 c.args.out.now (store_in s) start device) whole
       (went-on v durable bytes piece (kept_in s) c.feed-taken.new.self.kept s.wrote waiting0 c.args.out.now (store_in s) start device went all.1.unbroken all.1.kept_is)),
   (λ v image before waiting0 start shown s.
       let self = c.args.self.now in

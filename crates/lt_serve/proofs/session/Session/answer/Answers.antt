@@ -10,7 +10,7 @@ use Rattle.lt_line.proofs.HeldLaws.{command_of-kept}
 use Rattle.lt_store.specs.Open.{IsOpen}
 use Rattle.lt_store.specs.View.{view_of}
 use Rattle.lt_serve.specs.declared.faults.RoundFault.{RoundFault}
-use Rattle.lt_serve.specs.Acting.{Answers, Lost, settled_unless}
+use Rattle.lt_serve.specs.Acting.{CommandAnswered, CommandFailed, settled_unless}
 use Rattle.lt_serve.specs.Faults.{round_fault_of}
 use Rattle.lt_serve.specs.Promise.{moment_of}
 use Rattle.lt_serve.specs.View.{store_in}
@@ -28,8 +28,8 @@ returns-in_err-taken-clause-err g c =
     let old = moment_of g.D.Device c.args.device.now in
     let after = moment_of g.D.Device c.act_command.new.device in
     let fault = err_from_is_err_and c.from_residual.result c.from_residual.ensures.1 in
-    subst (λ r. IfErr r (λ f. (durable : State) → IsOpen (store_in c.args.self.now) durable device → Lost (store_in c.args.self.now) durable f old after)) (sym fault.1)
-    (λ durable opened. subst (λ (f : RoundFault). Lost (store_in c.args.self.now) durable f old after) (sym fault.2) (c.in_err-taken.ensures.err durable opened))
+    subst (λ r. IfErr r (λ f. (durable : State) → IsOpen (store_in c.args.self.now) durable device → CommandFailed (store_in c.args.self.now) durable f old after)) (sym fault.1)
+    (λ durable opened. subst (λ (f : RoundFault). CommandFailed (store_in c.args.self.now) durable f old after) (sym fault.2) (c.in_err-taken.ensures.err durable opened))
 
 -- the command that was read is the line's
 of_line : (command : Command) (kept line : List ℕ) → command ≡ command_of kept → kept ≡ kept_of line → command ≡ command_of line
@@ -42,7 +42,7 @@ returns-then-not-self-clause-ok g c = λ line durable held opened.
     let device = moment_of g.D.Device c.args.device.now in
     let after = moment_of g.D.Device c.act_command.new.device in
     answered-line (store_in c.args.self.now) (view_of c.act_command.new.store) durable (command_of line) c.args.self.now.wrote wrote c.in_ok-taken.taken c.args.out.now c.act_command.new.out c.settle.new.self device after
-    (subst (λ (x : Command). Answers (store_in c.args.self.now) durable x c.in_ok-taken.taken c.args.out.now c.act_command.new.out (view_of c.act_command.new.store) device after) command (c.in_ok-taken.ensures.ok durable opened)) refl
+    (subst (λ (x : Command). CommandAnswered (store_in c.args.self.now) durable x c.in_ok-taken.taken c.args.out.now c.act_command.new.out (view_of c.act_command.new.store) device after) command (c.in_ok-taken.ensures.ok durable opened)) refl
     (c.settle.ensures ∙ ap (λ b. settled_unless b c.act_command.new.out) (sym c.if-not-self.true))
 
 pub returns-else-not-self-clause-ok : goal.returns-else-not-self-clause-ok
@@ -52,7 +52,7 @@ returns-else-not-self-clause-ok g c = λ line durable held opened.
     let device = moment_of g.D.Device c.args.device.now in
     let after = moment_of g.D.Device c.act_command.new.device in
     answered-line (store_in c.args.self.now) (view_of c.act_command.new.store) durable (command_of line) c.args.self.now.wrote wrote c.in_ok-taken.taken c.args.out.now c.act_command.new.out c.act_command.new.out device after
-    (subst (λ (x : Command). Answers (store_in c.args.self.now) durable x c.in_ok-taken.taken c.args.out.now c.act_command.new.out (view_of c.act_command.new.store) device after) command (c.in_ok-taken.ensures.ok durable opened)) refl
+    (subst (λ (x : Command). CommandAnswered (store_in c.args.self.now) durable x c.in_ok-taken.taken c.args.out.now c.act_command.new.out (view_of c.act_command.new.store) device after) command (c.in_ok-taken.ensures.ok durable opened)) refl
     (ap (λ b. settled_unless b c.act_command.new.out) (sym c.if-not-self.false))
 
 pub returns-in_err-taken-clause-device : goal.returns-in_err-taken-clause-device

@@ -5,7 +5,7 @@ use Rattle.lt_store.specs.Open.{StoreView, extents_of}
 use Rattle.lt_store.specs.View.{view_of}
 use Rattle.lt_serve.specs.declared.faults.RoundFault.TheVariants.{Device}
 use Rattle.lt_serve.specs.Promise.{moment_of}
-use Rattle.lt_serve.specs.Rounds.{Stopped, all_text}
+use Rattle.lt_serve.specs.Rounds.{RoundFailed, all_text}
 use Rattle.lt_serve.specs.Sizes.{SameSizes}
 use Rattle.lt_serve.specs.View.{kept_in, store_in}
 use Rattle.lt_serve.proofs.CallLaws.{acts-ok, acts-device}
@@ -21,8 +21,8 @@ returns-in-Err-clause-err g c = λ durable line opened free held.
     let e = extents_of (store_in c.args.self.now) in
     let device = moment_of g.D.Device c.args.device.now in
     let after = moment_of g.D.Device c.act_all.new.device in
-    subst (λ (waiting0 : Waiting). Stopped e durable (line ++ c.args.piece.now) c.act_all.new.self.lines c.in-Err.fault waiting0 c.drop_unsettled.new.self.settled_text device after) c.settle.ensures
-    (subst (λ (settled : List ℕ). Stopped e durable (line ++ c.args.piece.now) c.act_all.new.self.lines c.in-Err.fault c.settle.new.self settled device after) (sym (ap (λ (w : Waiting). w.settled_text) c.drop_unsettled.ensures))
+    subst (λ (waiting0 : Waiting). RoundFailed e durable (line ++ c.args.piece.now) c.act_all.new.self.lines c.in-Err.fault waiting0 c.drop_unsettled.new.self.settled_text device after) c.settle.ensures
+    (subst (λ (settled : List ℕ). RoundFailed e durable (line ++ c.args.piece.now) c.act_all.new.self.lines c.in-Err.fault c.settle.new.self settled device after) (sym (ap (λ (w : Waiting). w.settled_text) c.drop_unsettled.ensures))
     (c.in-Err.ensures.err.0 durable line opened free held))
 
 pub returns-in-Err-committed-clause-err : goal.returns-in-Err-committed-clause-err
@@ -38,8 +38,8 @@ returns-in-Err-committed-clause-err g c = λ durable line opened free held.
     let went = c.in-Ok.ensures.ok.0 durable line opened free held in
     let now = after_writes durable (take went.goes.sure ((store_in s).log.pending ++ went.writes)) in
     let settled : c.drop_unsettled-in-Err-committed.new.self.settled_text ≡ c.act_all.new.out.settled_text = ap (λ (x : Waiting). x.settled_text) c.drop_unsettled-in-Err-committed.ensures in
-    subst (λ (waiting0 : Waiting). Stopped (extents_of (store_in s)) durable (line ++ piece) w.lines Device waiting0 c.drop_unsettled-in-Err-committed.new.self.settled_text device after) c.settle.ensures
-    (subst (λ (bytes : List ℕ). Stopped (extents_of (store_in s)) durable bytes w.lines Device c.settle.new.self c.drop_unsettled-in-Err-committed.new.self.settled_text device after) (taken-and-rest line piece n)
+    subst (λ (waiting0 : Waiting). RoundFailed (extents_of (store_in s)) durable (line ++ piece) w.lines Device waiting0 c.drop_unsettled-in-Err-committed.new.self.settled_text device after) c.settle.ensures
+    (subst (λ (bytes : List ℕ). RoundFailed (extents_of (store_in s)) durable bytes w.lines Device c.settle.new.self c.drop_unsettled-in-Err-committed.new.self.settled_text device after) (taken-and-rest line piece n)
     (stopped-commit (store_in s) durable (line ++ take n piece) (kept_in w) w.wrote c.settle.new.self c.act_all.new.out (store_in w) device mid went nothing (drop n piece) c.drop_unsettled-in-Err-committed.new.self.settled_text w.lines Device after
     (lost-commit (store_in w) now mid after went.goes.opened (omega (arith, c.in-Err-committed.ensures.calls.count)) (c.in-Err-committed.ensures.broken now went.goes.opened)) settled c.in-Ok.ensures.acting.open_line refl (λ some. c.in-Ok.ensures.taken.enough (some-left piece n some))))
 
