@@ -3,6 +3,8 @@ use lt_device::{Device, MemDevice, Pick, Steady};
 use lt_io::{MemSink, MemSource, Sink, Source, SteadySource};
 use lt_page::{NoMemory, Page};
 use std::alloc::Global;
+use std::fmt::Debug;
+use std::process::Abort;
 
 /// A store of 1 extent, 2 levels and 1 slot has so many blocks. Its extent begins at block 872.
 const BLOCKS: u64 = 937;
@@ -12,6 +14,11 @@ const HOME_OF_A: u64 = 929;
 
 /// More calls of a device than any of these runs makes.
 const CALLS: usize = 9999;
+
+/// Fails the test unless both are the same.
+fn same<T: PartialEq + Debug + Drop>(rt: &impl Abort, got: T, want: T) {
+    assert_eq!(rt; got, want);
+}
 
 fn owned(alloc: Global, pieces: &[&str]) -> Result<Vec<Vec<u8>>, NoMemory> {
     let mut owned = Vec::new(alloc);
@@ -78,9 +85,9 @@ fn run<D: Device>(
     run_words(alloc, device, "run", pieces)
 }
 
-/// Whether this was shown, and this is the status.
-fn shows(answer: &(Vec<u8>, u8), text: &str, status: u8) -> bool {
-    answer.0.as_slice() == text.as_bytes() && answer.1 == status
+/// Fails the test unless this was shown, and this is the status.
+fn shows(rt: &impl Abort, answer: &(Vec<u8>, u8), text: &[u8], status: u8) {
+    assert_eq!(rt; (answer.0.as_slice(), answer.1), (text, status));
 }
 
 /// Runs over a source and a sink whose calls with these numbers fail.
@@ -168,10 +175,9 @@ fn lines_are_answered_by_a_store(rt: HostRuntime) -> Result<(), NoMemory> {
     for (pieces, want) in rows {
         let mut device = Steady::new(alloc, 1384)?;
         let answer = run_words(alloc, &mut device, "init 4 2 64", &[])?;
-        assert!(rt; shows(&answer, "", 0));
-        let (shown, status) = run(alloc, &mut device, pieces)?;
-        assert_eq!(rt; shown.as_slice(), want.as_bytes(), "of {pieces:?}");
-        assert_eq!(rt; status, 0);
+        shows(&rt, &answer, b"", 0);
+        let answer = run(alloc, &mut device, pieces)?;
+        shows(&rt, &answer, want.as_bytes(), 0);
     }
     Ok(())
 }
@@ -197,31 +203,59 @@ const LINES: [(&[(&str, usize)], &str); 14] = [
     (&[("get k", 1)], "NONE\n"),
 ];
 
+/// The replies to those lines.
+fn replies(alloc: Global) -> Result<Vec<u8>, NoMemory> {
+    let mut replies = Vec::new(alloc);
+    for (_, reply) in LINES {
+        replies.extend_from_slice(reply.as_bytes())?;
+    }
+    Ok(replies)
+}
+
+/// Those lines, a piece each.
+fn lines(alloc: Global) -> Result<Vec<Vec<u8>>, NoMemory> {
+    let mut lines = Vec::new(alloc);
+    for (parts, _) in LINES {
+        lines.push(line(alloc, parts)?)?;
+    }
+    Ok(lines)
+}
+
+/// The bytes of some pieces, one behind the other.
+fn joined(alloc: Global, pieces: &[Vec<u8>]) -> Result<Vec<u8>, NoMemory> {
+    let mut joined = Vec::new(alloc);
+    for piece in pieces {
+        joined.extend_from_slice(piece)?;
+    }
+    Ok(joined)
+}
+
+/// These bytes, a piece each.
+fn single(alloc: Global, bytes: &[u8]) -> Result<Vec<Vec<u8>>, NoMemory> {
+    let mut pieces = Vec::new(alloc);
+    for byte in bytes {
+        pieces.push(vec![in alloc; *byte]?)?;
+    }
+    Ok(pieces)
+}
+
+/// Runs these pieces on an empty store.
+fn run_anew(alloc: Global, pieces: Vec<Vec<u8>>) -> Result<(Vec<u8>, u8), NoMemory> {
+    let mut device = Steady::new(alloc, 1384)?;
+    run_words(alloc, &mut device, "init 4 2 64", &[])?;
+    run_pieces(alloc, &mut device, "run", pieces)
+}
+
 #[test]
 fn pieces_of_any_size_are_answered_alike(rt: HostRuntime) -> Result<(), NoMemory> {
     let alloc = rt.alloc();
-    let mut want = Vec::new(alloc);
-    let mut all = Vec::new(alloc);
-    let mut lines = Vec::new(alloc);
-    for (parts, reply) in LINES {
-        want.extend_from_slice(reply.as_bytes())?;
-        let line = line(alloc, parts)?;
-        all.extend_from_slice(&line)?;
-        lines.push(line)?;
-    }
-    let mut bytes = Vec::new(alloc);
-    for byte in &all {
-        bytes.push(vec![in alloc; *byte]?)?;
-    }
-    let whole = vec![in alloc; all]?;
-    for pieces in Vec::from_array(alloc, [whole, lines, bytes])? {
-        let mut device = Steady::new(alloc, 1384)?;
-        run_words(alloc, &mut device, "init 4 2 64", &[])?;
-        let number = pieces.len();
-        let (shown, status) = run_pieces(alloc, &mut device, "run", pieces)?;
-        assert_eq!(rt; shown.as_slice(), want.as_slice(), "in {number} pieces");
-        assert_eq!(rt; status, 0);
-    }
+    let want = replies(alloc)?;
+    let lines = lines(alloc)?;
+    let whole = joined(alloc, &lines)?;
+    let bytes = single(alloc, &whole)?;
+    shows(&rt, &run_anew(alloc, vec![in alloc; whole]?)?, &want, 0);
+    shows(&rt, &run_anew(alloc, lines)?, &want, 0);
+    shows(&rt, &run_anew(alloc, bytes)?, &want, 0);
     Ok(())
 }
 
@@ -237,13 +271,12 @@ fn puts_are_refused_once_no_extent_is_free(rt: HostRuntime) -> Result<(), NoMemo
         "get b\n",
         "stat\n",
     ];
-    let (shown, status) = run(alloc, &mut device, &pieces)?;
+    let answer = run(alloc, &mut device, &pieces)?;
     let mut want = b"OK\nOK\nFULL 1 0\nVALUE 1\nVALUE 2\nSTAT 2 ".to_vec(alloc)?;
     let reads = device.reads().to_string(alloc)?;
     want.extend_from_slice(reads.as_bytes())?;
     want.extend_from_slice(b" 1 0\n")?;
-    assert_eq!(rt; shown.as_slice(), want.as_slice());
-    assert_eq!(rt; status, 0);
+    shows(&rt, &answer, want.as_slice(), 0);
     Ok(())
 }
 
@@ -253,7 +286,7 @@ fn a_get_between_two_stats_is_counted(rt: HostRuntime) -> Result<(), NoMemory> {
     let alloc = rt.alloc();
     let mut device = made(alloc)?;
     let pieces = ["put a 1\n", "put b 2\n", "stat\nget a\nstat\n"];
-    let (shown, status) = run(alloc, &mut device, &pieces)?;
+    let answer = run(alloc, &mut device, &pieces)?;
     let reads = device.reads();
     let mut want = b"OK\nOK\n".to_vec(alloc)?;
     for (reply, count) in [
@@ -264,8 +297,7 @@ fn a_get_between_two_stats_is_counted(rt: HostRuntime) -> Result<(), NoMemory> {
         want.extend_from_slice(count.to_string(alloc)?.as_bytes())?;
         want.extend_from_slice(b" 1 0\n")?;
     }
-    assert_eq!(rt; shown.as_slice(), want.as_slice());
-    assert_eq!(rt; status, 0);
+    shows(&rt, &answer, want.as_slice(), 0);
     Ok(())
 }
 
@@ -290,10 +322,10 @@ fn other_words_leave_all_as_it_was(rt: HostRuntime) -> Result<(), NoMemory> {
         let mut source = SteadySource::new(owned(alloc, &["put a 1\n"])?);
         let mut sink = MemSink::new(alloc, 9, 9, Vec::new(alloc))?;
         let status = run_over(alloc, words, &mut source, &mut sink, &mut device)?;
-        assert_eq!(rt; status, 1, "of {words:?}");
-        assert_eq!(rt; sink.taken(), b"".as_slice());
-        assert_eq!(rt; source.read(&mut Page::new(alloc)?), Ok(8));
-        assert_eq!(rt; device.reads(), 0);
+        same(&rt, (words, status), (words, 1));
+        same(&rt, sink.taken(), b"".as_slice());
+        same(&rt, source.read(&mut Page::new(alloc)?), Ok(8));
+        same(&rt, device.reads(), 0);
     }
     Ok(())
 }
@@ -303,13 +335,13 @@ fn a_store_is_made_where_there_is_room_and_nothing_else(rt: HostRuntime) -> Resu
     let alloc = rt.alloc();
     let mut device = made(alloc)?;
     let answer = run_words(alloc, &mut device, "init 1 2 1", &[])?;
-    assert!(rt; shows(&answer, "OCCUPIED\n", 6));
+    shows(&rt, &answer, b"OCCUPIED\n", 6);
     for (blocks, want) in [(936, "TOO SMALL 937 936\n"), (0, "TOO SMALL 937 0\n")] {
         let mut device = Steady::new(alloc, blocks)?;
         let answer = run_words(alloc, &mut device, "init 1 2 1", &[])?;
-        assert!(rt; shows(&answer, want, 6));
+        shows(&rt, &answer, want.as_bytes(), 6);
         let answer = run(alloc, &mut device, &["get a\n"])?;
-        assert!(rt; shows(&answer, "DAMAGED 0\n", 5));
+        shows(&rt, &answer, b"DAMAGED 0\n", 5);
     }
     Ok(())
 }
@@ -323,7 +355,7 @@ fn a_write_under_way_is_there_whole_or_not_at_all(rt: HostRuntime) -> Result<(),
     let stop = Some(opening.saturating_add(7));
     let mut device = first.crash(alloc, &[], CALLS, Vec::new(alloc), stop)?;
     let answer = run(alloc, &mut device, &["put a 1\n", "put b 2\n"])?;
-    assert!(rt; shows(&answer, "OK\n", 4));
+    shows(&rt, &answer, b"OK\n", 4);
     let rows = [
         (1, "VALUE 1\nVALUE 2\n"),
         (0, "VALUE 1\nNONE\n"),
@@ -332,7 +364,7 @@ fn a_write_under_way_is_there_whole_or_not_at_all(rt: HostRuntime) -> Result<(),
     for (byte, want) in rows {
         let mut left = device.crash(alloc, &[Pick::Filled(byte)], CALLS, Vec::new(alloc), None)?;
         let answer = run(alloc, &mut left, &["get a\nget b\n"])?;
-        assert!(rt; shows(&answer, want, 0), "of {byte}");
+        shows(&rt, &answer, want.as_bytes(), 0);
     }
     Ok(())
 }
@@ -351,7 +383,7 @@ fn a_manifest_that_does_not_stand_is_named(rt: HostRuntime) -> Result<(), NoMemo
     spoil(alloc, &mut device, 2, 0, &[0; Page::LEN])?;
     spoil(alloc, &mut device, 2, 0, &TABLE_IN_EXTENT_1)?;
     let answer = run(alloc, &mut device, &["get a\n"])?;
-    assert!(rt; shows(&answer, "DAMAGED 2\n", 5));
+    shows(&rt, &answer, b"DAMAGED 2\n", 5);
 
     // A store of more blocks than the device has.
     let whole = made(alloc)?;
@@ -362,7 +394,7 @@ fn a_manifest_that_does_not_stand_is_named(rt: HostRuntime) -> Result<(), NoMemo
         }
     }
     let answer = run(alloc, &mut short, &["get a\n"])?;
-    assert!(rt; shows(&answer, "DAMAGED 2\n", 5));
+    shows(&rt, &answer, b"DAMAGED 2\n", 5);
     Ok(())
 }
 
@@ -380,7 +412,7 @@ fn replies_before_a_damaged_bucket_are_shown(rt: HostRuntime) -> Result<(), NoMe
         spoil(alloc, &mut device, HOME_OF_A, 0, &[255; Page::LEN])?;
         let failing = failing.to_vec(alloc)?;
         let answer = run_failing(alloc, &mut device, &[piece], Vec::new(alloc), failing)?;
-        assert!(rt; shows(&answer, want, 5), "of {piece:?}");
+        shows(&rt, &answer, want.as_bytes(), 5);
     }
     Ok(())
 }
@@ -392,10 +424,10 @@ fn replies_before_a_read_that_fails_are_shown(rt: HostRuntime) -> Result<(), NoM
     let failing = vec![in alloc; opening_reads(alloc, &device)?]?;
     let mut failing = device.crash(alloc, &[], CALLS, failing, None)?;
     let answer = run(alloc, &mut failing, &["get b\nget a\n"])?;
-    assert!(rt; shows(&answer, "VALUE 2\n", 4));
+    shows(&rt, &answer, b"VALUE 2\n", 4);
     let mut again = failing.crash(alloc, &[], CALLS, Vec::new(alloc), None)?;
     let answer = run(alloc, &mut again, &["get b\nget a\n"])?;
-    assert!(rt; shows(&answer, "VALUE 2\nVALUE 1\n", 0));
+    shows(&rt, &answer, b"VALUE 2\nVALUE 1\n", 0);
     Ok(())
 }
 
@@ -405,7 +437,7 @@ fn the_last_number_of_writes_is_a_limit(rt: HostRuntime) -> Result<(), NoMemory>
     let mut device = made(alloc)?;
     spoil(alloc, &mut device, 2, 8, &[255; 8])?;
     let answer = run(alloc, &mut device, &["put k v\nget k\n"])?;
-    assert!(rt; shows(&answer, "LIMIT\nNONE\n", 0));
+    shows(&rt, &answer, b"LIMIT\nNONE\n", 0);
     Ok(())
 }
 
@@ -417,9 +449,9 @@ fn a_source_or_a_sink_that_fails_ends_the_run(rt: HostRuntime) -> Result<(), NoM
         let mut device = made_by(alloc, "init 4 2 64", 1384)?;
         let (reads, writes) = (reads.to_vec(alloc)?, writes.to_vec(alloc)?);
         let answer = run_failing(alloc, &mut device, &["put a 1\n"], reads, writes)?;
-        assert!(rt; shows(&answer, want, status));
+        shows(&rt, &answer, want.as_bytes(), status);
         let answer = run(alloc, &mut device, &["get a\n"])?;
-        assert!(rt; shows(&answer, "VALUE 1\n", 0));
+        shows(&rt, &answer, b"VALUE 1\n", 0);
     }
     Ok(())
 }
@@ -431,6 +463,14 @@ const KEPT: [&str; 4] = [
     "VALUE 1\nVALUE 2\nNONE\n",
     "VALUE 1\nVALUE 2\nVALUE 3\n",
 ];
+
+/// Whether these are the replies after so many puts, or after one more.
+fn are_kept(values: &[u8], puts: usize) -> bool {
+    KEPT.iter()
+        .skip(puts)
+        .take(2)
+        .any(|kept| values == kept.as_bytes())
+}
 
 #[test]
 fn each_crash_keeps_what_was_acknowledged(rt: HostRuntime) -> Result<(), NoMemory> {
@@ -446,14 +486,8 @@ fn each_crash_keeps_what_was_acknowledged(rt: HostRuntime) -> Result<(), NoMemor
             let picks = vec![in alloc; pick; 200]?;
             let mut left = device.crash(alloc, &picks, CALLS, Vec::new(alloc), None)?;
             let (values, status) = run(alloc, &mut left, &["get a\nget b\nget c\n"])?;
-            assert_eq!(rt; status, 0);
-            assert!(rt;
-                KEPT.iter()
-                    .skip(acknowledged)
-                    .take(2)
-                    .any(|kept| values.as_slice() == kept.as_bytes()),
-                "stopped at {stop}, {pick:?}"
-            );
+            let kept = are_kept(&values, acknowledged);
+            same(&rt, (stop, pick, status, kept), (stop, pick, 0, true));
         }
     }
     Ok(())

@@ -3,6 +3,7 @@ ghost use Rattle.lt_terms.specs.Items.{is_valid};
 ghost use Rattle.lt_item.specs.Views.{item_of};
 ghost use Rattle.lt_tables.specs.Bucket.{bucket_of};
 
+use crate::checks::{check, same};
 use lt_bucket::{BucketBuilder, BucketView, Item, Key, Look, Sends};
 use lt_item::{ItemView, Kind, parts_of};
 use lt_page::{NoMemory, Page};
@@ -27,26 +28,27 @@ fn build_one(page: &mut Page, item: &ItemView<'_>)
 #[test]
 fn one_item_on_a_page(rt: HostRuntime) -> Result<(), Fail> {
     let mut page = Page::new(rt.alloc())?;
-    assert!(rt; BucketView::of(&page).is_none());
-    assert!(rt; PUT.is_valid());
+    check(&rt, BucketView::of(&page).is_none());
+    check(&rt, PUT.is_valid());
 
     page.fill_from(2000, b"left from before");
     build_one(&mut page, &PUT);
     let (spelled, rest) = page.bytes().split_at(22);
-    assert_eq!(rt;
+    same(
+        &rt,
         spelled,
-        b"\x00\x01\x00\x06\x00\x00\x00\x00\x00\x00\x01\x00\x00\x00\x00\x00\x01\x01\x00\x01kv".as_slice()
+        b"\x00\x01\x00\x06\x00\x00\x00\x00\x00\x00\x01\x00\x00\x00\x00\x00\x01\x01\x00\x01kv".as_slice(),
     );
-    assert!(rt; rest.iter().all(|byte| *byte == 0));
+    check(&rt, rest.iter().all(|byte| *byte == 0));
 
     let bucket = BucketView::of(&page).ok_or("no bucket")?;
-    assert_eq!(rt; bucket.count(), 1);
-    assert_eq!(rt; bucket.sends(), None);
+    same(&rt, bucket.count(), 1);
+    same(&rt, bucket.sends(), None);
     let mut items = bucket.items();
-    assert_eq!(rt; items.next(), Some(PUT));
-    assert_eq!(rt; items.next(), None);
-    assert_eq!(rt; bucket.find(b"k", &parts_of(b"k")), Look::Here(PUT));
-    assert_eq!(rt; bucket.find(b"abc", &parts_of(b"abc")), Look::Absent);
+    same(&rt, items.next(), Some(PUT));
+    same(&rt, items.next(), None);
+    same(&rt, bucket.find(b"k", &parts_of(b"k")), Look::Here(PUT));
+    same(&rt, bucket.find(b"abc", &parts_of(b"abc")), Look::Absent);
     Ok(())
 }
 
@@ -61,15 +63,15 @@ fn suffixes_from_the_mark_on_are_sent(rt: HostRuntime) -> Result<(), Fail> {
         let mut page = Page::new(rt.alloc())?;
         BucketBuilder::start(&mut page).finish(Some(Sends { target: 63, mark }));
         let bucket = BucketView::of(&page).ok_or("no bucket")?;
-        assert_eq!(rt; bucket.sends(), Some(Sends { target: 63, mark }));
-        assert_eq!(rt; bucket.find(b"abc", &abc), look, "at the mark {mark}");
+        same(&rt, bucket.sends(), Some(Sends { target: 63, mark }));
+        same(&rt, (mark, bucket.find(b"abc", &abc)), (mark, look));
     }
     Ok(())
 }
 
 #[test]
 fn no_bucket_is_spelled(rt: HostRuntime) -> Result<(), Fail> {
-    assert!(rt; PUT.is_valid());
+    check(&rt, PUT.is_valid());
     let changes = [
         (0, 2),
         (1, 0),
@@ -88,13 +90,13 @@ fn no_bucket_is_spelled(rt: HostRuntime) -> Result<(), Fail> {
     for (at, value) in changes {
         let mut page = Page::new(rt.alloc())?;
         build_one(&mut page, &PUT);
-        assert!(rt; at < Page::LEN);
+        check(&rt, at < Page::LEN);
         page.set(at, value);
         // A bucket may send to column 0 from suffix 0 on.
-        assert_eq!(rt;
-            BucketView::of(&page).is_some(),
-            at == 4,
-            "byte {at} is {value}"
+        same(
+            &rt,
+            (at, value, BucketView::of(&page).is_some()),
+            (at, value, at == 4),
         );
     }
     Ok(())
@@ -102,11 +104,11 @@ fn no_bucket_is_spelled(rt: HostRuntime) -> Result<(), Fail> {
 
 #[test]
 fn owned_items_and_keys(rt: HostRuntime) -> Result<(), NoMemory> {
-    assert!(rt; PUT.is_valid());
+    check(&rt, PUT.is_valid());
     let item = Item::copy(rt.alloc(), &PUT)?;
-    assert_eq!(rt; item.view(), PUT);
-    assert_eq!(rt; item.parts(), &parts_of(b"k"));
+    same(&rt, item.view(), PUT);
+    same(&rt, item.parts(), &parts_of(b"k"));
     let key = Key::copy(rt.alloc(), b"k")?;
-    assert_eq!(rt; key.bytes(), b"k".as_slice());
+    same(&rt, key.bytes(), b"k".as_slice());
     Ok(())
 }

@@ -1,3 +1,4 @@
+use crate::checks::{check, same};
 use lt_bloom::{FilterPage, covers_at};
 use lt_item::parts_of;
 use lt_page::Page;
@@ -7,11 +8,17 @@ use std::test::Fail;
 fn one_key_sets_six_bits(rt: HostRuntime) -> Result<(), Fail> {
     let parts = parts_of(b"abc");
     let mut filters = FilterPage::new(rt.alloc())?;
-    assert!(rt; !filters.covers(15, &parts));
+    check(&rt, !filters.covers(15, &parts));
     filters.add(15, &parts);
-    assert!(rt; filters.covers(15, &parts) && covers_at(filters.page(), 15, &parts));
-    assert!(rt; !filters.covers(14, &parts) && !filters.covers(16, &parts));
-    assert!(rt; !filters.covers(15, &parts_of(b"")));
+    check(
+        &rt,
+        filters.covers(15, &parts) && covers_at(filters.page(), 15, &parts),
+    );
+    check(
+        &rt,
+        !filters.covers(14, &parts) && !filters.covers(16, &parts),
+    );
+    check(&rt, !filters.covers(15, &parts_of(b"")));
 
     for (at, byte) in filters.page().bytes().iter().enumerate() {
         let expected = match at.wrapping_sub(15 * 64) {
@@ -23,7 +30,7 @@ fn one_key_sets_six_bits(rt: HostRuntime) -> Result<(), Fail> {
             46 => 0x40,
             _ => 0,
         };
-        assert_eq!(rt; *byte, expected, "byte {at}");
+        same(&rt, (at, *byte), (at, expected));
     }
     Ok(())
 }
@@ -35,6 +42,6 @@ fn filters_are_read_from_their_page(rt: HostRuntime) -> Result<(), Fail> {
     filters.add(63, &parts);
     let mut page = Page::new(rt.alloc())?;
     page.copy_from(filters.page());
-    assert!(rt; FilterPage::from_page(page).covers(63, &parts));
+    check(&rt, FilterPage::from_page(page).covers(63, &parts));
     Ok(())
 }

@@ -1,3 +1,4 @@
+use crate::checks::same;
 use lt_item::{ItemView, Kind};
 use lt_mem::MemTable;
 use std::test::Fail;
@@ -5,12 +6,12 @@ use std::test::Fail;
 #[test]
 fn the_newest_item_of_each_key(rt: HostRuntime) -> Result<(), Fail> {
     let mut table = MemTable::new(rt.alloc())?;
-    assert_eq!(rt; table.get(b"a"), None);
+    same(&rt, table.get(b"a"), None);
     table.put(b"a", b"1");
     table.put(b"b", b"2");
     table.delete(b"a");
     table.put(b"b", b"33");
-    assert_eq!(rt; table.bytes(), 6 + 6 + 5 + 7);
+    same(&rt, table.bytes(), 6 + 6 + 5 + 7);
 
     let a = ItemView {
         kind: Kind::Delete,
@@ -22,19 +23,20 @@ fn the_newest_item_of_each_key(rt: HostRuntime) -> Result<(), Fail> {
         key: b"b",
         value: b"33",
     };
-    assert_eq!(rt; table.get(b"a"), Some(a));
-    assert_eq!(rt; table.get(b"b"), Some(b));
-    assert_eq!(rt; table.get(b"c"), None);
+    same(&rt, table.get(b"a"), Some(a));
+    same(&rt, table.get(b"b"), Some(b));
+    same(&rt, table.get(b"c"), None);
 
     // The suffix of `b` is 0xe7c92d6d, and that of `a` is 0xfaa5a7fc.
     let batch = table.batch(rt.alloc())?;
-    assert_eq!(rt; batch.len(), 2);
-    assert_eq!(rt; batch[0].view(), b);
-    assert_eq!(rt; batch[1].view(), a);
+    let mut items = batch.iter();
+    same(&rt, items.next().map(|item| item.view()), Some(b));
+    same(&rt, items.next().map(|item| item.view()), Some(a));
+    same(&rt, items.len(), 0);
 
     table.clear();
-    assert_eq!(rt; table.bytes(), 0);
-    assert_eq!(rt; table.get(b"b"), None);
+    same(&rt, table.bytes(), 0);
+    same(&rt, table.get(b"b"), None);
     Ok(())
 }
 
@@ -71,7 +73,7 @@ fn a_plain_map_has_the_same(rt: HostRuntime) -> Result<(), Fail> {
         plain[key as usize] = Some(value);
     }
     for key in 0..256 {
-        assert_eq!(rt; newest(&table, key as u8), plain[key], "of {key}");
+        same(&rt, (key, newest(&table, key as u8)), (key, plain[key]));
     }
     Ok(())
 }
@@ -82,8 +84,8 @@ fn items_of_least_cost_fill_the_table(rt: HostRuntime) -> Result<(), Fail> {
     for number in 0..40_818u32 {
         add(&mut table, (number % 251) as u8, None);
     }
-    assert_eq!(rt; table.bytes(), 204_090);
-    assert_eq!(rt; newest(&table, 250), Some(None));
-    assert_eq!(rt; newest(&table, 251), None);
+    same(&rt, table.bytes(), 204_090);
+    same(&rt, newest(&table, 250), Some(None));
+    same(&rt, newest(&table, 251), None);
     Ok(())
 }

@@ -1,3 +1,4 @@
+use crate::checks::{check, same};
 use lt_bucket::Item;
 use lt_item::{ItemView, Kind, parts_of};
 use lt_merge::{deal_by, newest, without_deletes};
@@ -48,15 +49,15 @@ fn the_newest_of_each_key_come_in_rank_order(rt: HostRuntime) -> Result<(), Fail
     lists.push(Vec::new(rt.alloc()))?;
     lists.push(items(rt.alloc(), &new)?)?;
     let newest = newest(rt.alloc(), &mut lists)?;
-    assert!(rt; lists.is_empty());
-    assert_eq!(rt; newest.len(), 4);
+    check(&rt, lists.is_empty());
+    same(&rt, newest.len(), 4);
     for wanted in [(1, Some(3)), (2, Some(2)), (3, None), (4, Some(3))] {
-        assert!(rt; newest.iter().any(|item| row(item) == wanted));
+        check(&rt, newest.iter().any(|item| row(item) == wanted));
     }
     let mut before = 0;
     for item in &newest {
         let suffix = item.parts().suffix;
-        assert!(rt; before < suffix);
+        check(&rt, before < suffix);
         before = suffix;
     }
     Ok(())
@@ -70,21 +71,21 @@ fn items_are_dealt_by_their_digit_in_order(rt: HostRuntime) -> Result<(), Fail> 
         all.push(item(rt.alloc(), key, value)?)?;
     }
     let lists = deal_by(rt.alloc(), &mut all, 1)?;
-    assert!(rt; all.is_empty());
-    assert_eq!(rt; lists.len(), 8);
+    check(&rt, all.is_empty());
+    same(&rt, lists.len(), 8);
     let mut count = 0u8;
     for (digit, list) in lists.iter().enumerate() {
         let mut before = None;
         for item in list {
             let (key, value) = row(item);
-            assert_eq!(rt; usize::from(parts_of(&[key]).digits[1]), digit);
-            assert_eq!(rt; value.is_none(), key % 3 == 0);
-            assert!(rt; before < Some(key));
+            same(&rt, usize::from(parts_of(&[key]).digits[1]), digit);
+            same(&rt, value.is_none(), key % 3 == 0);
+            check(&rt, before < Some(key));
             before = Some(key);
             count = count.wrapping_add(1);
         }
     }
-    assert_eq!(rt; count, 100);
+    same(&rt, count, 100);
     Ok(())
 }
 
@@ -92,7 +93,7 @@ fn items_are_dealt_by_their_digit_in_order(rt: HostRuntime) -> Result<(), Fail> 
 fn only_puts_are_left(rt: HostRuntime) -> Result<(), Fail> {
     let rows = [(1, Some(1)), (2, None), (3, Some(3)), (4, None)];
     let puts = without_deletes(items(rt.alloc(), &rows)?);
-    assert_eq!(rt; puts.len(), 2);
-    assert!(rt; puts.iter().all(|item| row(item).1.is_some()));
+    same(&rt, puts.len(), 2);
+    check(&rt, puts.iter().all(|item| row(item).1.is_some()));
     Ok(())
 }

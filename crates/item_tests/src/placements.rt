@@ -1,3 +1,4 @@
+use crate::checks::{check, same};
 use lt_balance::{ColumnPlan, Entry, Placement, are_entries, cut, place};
 use std::alloc::Global;
 use std::process::Abort;
@@ -29,7 +30,7 @@ fn nothing_and_full_columns_send_nothing(rt: HostRuntime) -> Result<(), Fail> {
     for entries in [&full[..], &full[..0], &full[1..]] {
         let plans = placement(&rt, rt.alloc(), entries)?.ok_or("a placement")?;
         for column in 0..64 {
-            assert!(rt; !plans.plan(column).sends);
+            check(&rt, !plans.plan(column).sends);
         }
     }
     Ok(())
@@ -42,15 +43,12 @@ fn one_more_is_sent_to_the_first_empty_column(rt: HostRuntime) -> Result<(), Fai
     for column in 0..64 {
         let sends = column == 3;
         let mark = if sends { 30 } else { 0 };
-        assert_eq!(rt;
-            *plans.plan(column),
-            ColumnPlan {
-                sends,
-                target: 0,
-                mark
-            },
-            "column {column}"
-        );
+        let want = ColumnPlan {
+            sends,
+            target: 0,
+            mark,
+        };
+        same(&rt, (column, *plans.plan(column)), (column, want));
     }
     Ok(())
 }
@@ -58,9 +56,9 @@ fn one_more_is_sent_to_the_first_empty_column(rt: HostRuntime) -> Result<(), Fai
 #[test]
 fn one_suffix_is_not_split(rt: HostRuntime) -> Result<(), Fail> {
     let entries = [entry(3, 10, 2000), entry(3, 10, 2000), entry(3, 10, 2000)];
-    assert!(rt; placement(&rt, rt.alloc(), &entries)?.is_none());
+    check(&rt, placement(&rt, rt.alloc(), &entries)?.is_none());
     let tables = counts(&rt, rt.alloc(), &entries)?;
-    assert_eq!(rt; tables.as_slice(), [2, 1].as_slice());
+    same(&rt, tables.as_slice(), [2, 1].as_slice());
     Ok(())
 }
 
@@ -73,34 +71,36 @@ fn the_fuller_column_chooses_first(rt: HostRuntime) -> Result<(), Fail> {
         entry(2, 9, 3000),
     ];
     let plans = placement(&rt, rt.alloc(), &entries)?.ok_or("a placement")?;
-    assert_eq!(rt;
+    same(
+        &rt,
         *plans.plan(2),
         ColumnPlan {
             sends: true,
             target: 0,
-            mark: 9
-        }
+            mark: 9,
+        },
     );
-    assert_eq!(rt;
+    same(
+        &rt,
         *plans.plan(1),
         ColumnPlan {
             sends: true,
             target: 3,
-            mark: 9
-        }
+            mark: 9,
+        },
     );
-    assert!(rt; !plans.plan(0).sends);
+    check(&rt, !plans.plan(0).sends);
     Ok(())
 }
 
 #[test]
 fn entries_out_of_form_are_told(rt: HostRuntime) {
-    assert!(rt; are_entries(&[entry(63, 7, 4080), entry(0, 7, 5)]));
+    check(&rt, are_entries(&[entry(63, 7, 4080), entry(0, 7, 5)]));
     for (name, entries) in [
         ("column", [entry(0, 1, 5), entry(64, 1, 5)]),
         ("cost", [entry(0, 1, 4081), entry(0, 1, 5)]),
         ("suffix", [entry(0, 2, 5), entry(0, 1, 5)]),
     ] {
-        assert!(rt; !are_entries(&entries), "{name}");
+        same(&rt, (name, are_entries(&entries)), (name, false));
     }
 }

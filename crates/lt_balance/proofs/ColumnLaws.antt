@@ -24,7 +24,8 @@ filter_alike : (p q : Entry → Bool) (es : List Entry) → AllByRecursion (λ e
 filter_alike p q [] all = refl
 filter_alike p q (e ∷ es) all = ap (λ b. cond b (e ∷ filter p es) (filter p es)) all.0 ∙ ap (λ xs. cond (q e) (e ∷ xs) xs) (filter_alike p q es all.1)
 
-none_kept : (p : Entry → Bool) (es : List Entry) → AllByRecursion (λ e. p e ≡ false) es → filter p es ≡ []
+-- where no entry passes a test, none is kept
+pub none_kept : (p : Entry → Bool) (es : List Entry) → AllByRecursion (λ e. p e ≡ false) es → filter p es ≡ []
 none_kept p [] all = refl
 none_kept p (e ∷ es) all = ap (λ b. cond b (e ∷ filter p es) (filter p es)) all.0 ∙ none_kept p es all.1
 

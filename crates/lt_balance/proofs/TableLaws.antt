@@ -1,16 +1,22 @@
 -- The count of a table, found front by front.
-use Rattle.std.proofs.Common.{◌≡◌, ℕ, suc, ◌+◌, ◌-◌, ◌<◌, ◌≤◌, refl, sym, ap, subst, ◌∙◌, List, [], ◌∷◌, ◌++◌, map, length, take, drop, Bool, true, false, cond, Option, Some, None, arith}
-use Rattle.std.proofs.lemmas.List.{append-nil, append_assoc}
+use Rattle.std.proofs.Common.{◌≡◌, ℕ, suc, ◌+◌, ◌-◌, ◌<◌, ◌≤◌, refl, sym, ap, subst, ◌∙◌, List, [], ◌∷◌, ◌++◌, map, length, take, drop, set, get_or, replicate, Bool, ◌||◌, true, false, cond, Option, Some, None, arith, ⊎_elim}
+use Rattle.std.specs.Prelude.{◌==◌, nat_lt}
+use Rattle.std.proofs.lemmas.List.{append-nil, append_assoc, get_or-set_same}
+use Rattle.std.proofs.lemmas.List.Elements.{All-replicate, All-set, recursion_from_All}
+use Rattle.std.proofs.lemmas.Bool.{cases_lt, le-ltb, ltb-false, ne_eqb, true≢false}
 use Rattle.std.specs.Option.{is_some, option_map, MatchOption}
 use Rattle.lt_tables.specs.declared.Entry.{Entry}
 use Rattle.lt_tables.specs.declared.Sending.{Sending}
-use Rattle.lt_tables.specs.Placement.{columns, plan_of, senders, sendings, placement, has_placement}
+use Rattle.lt_tables.specs.Bucket.{capacity}
+use Rattle.lt_tables.specs.Placement.{columns, column_load, entries_cost, is_sender, plan_of, senders, sendings, placement, has_placement}
 use Rattle.lt_tables.specs.Cut.{first_fit, table_count, cut_counts}
-use Rattle.lt_tables.proofs.CutLaws.{has_placement-single, cut_counts-nil, cut_counts-some}
+use Rattle.lt_tables.proofs.CutLaws.{has_placement-single, placement-no_senders, cut_counts-nil, cut_counts-some}
+use Rattle.lt_balance.proofs.ColumnLaws.{none_kept}
+use Rattle.lt_balance.proofs.SendingLaws.{load_is}
 use Rattle.lt_balance.proofs.EntryLaws.{AreEntries-drop}
 use Rattle.lt_balance.specs.declared.columns.Column.{Column}
 use Rattle.lt_balance.specs.Entries.{AreEntries}
-use Rattle.lt_balance.specs.Columns.{AreColumns}
+use Rattle.lt_balance.specs.Columns.{no_column, AreColumns, NoneSends}
 
 -- the first so many entries have a placement, and these are their columns
 pub record IsFitted (es : List Entry) (count : ℕ) (cols : List Column) : Type 0 where
@@ -33,6 +39,21 @@ pub has_placement-is : {A : Type 0} (items : A → List Sending) (es : List Entr
 has_placement-is items es None is = placed_by es None is
 has_placement-is items es (Some made) is = placed_by es (Some (items made)) is
 
+-- entries of the 64 columns whose columns each fit in a bucket have no sender, and so a placement
+pub has_placement-kept : (es : List Entry) (cols : List Column) → AreEntries es → AreColumns es cols → NoneSends cols → has_placement es ≡ true
+unfolding column_load
+has_placement-kept es cols entries are none = ap is_some (placement-no_senders es (λ c. ⊎_elim (λ small. kept c small) (λ great. strange c great) (cases_lt c 64)))
+  where
+    kept : (c : ℕ) → c < 64 → is_sender es c ≡ false
+    kept c small =
+        let load = load_is es cols c are small in
+        let len = are.len in
+        let fits = none c no_column (omega arith) in
+        le-ltb capacity (column_load es c) (omega arith)
+
+    strange : (c : ℕ) → 64 ≤ c → is_sender es c ≡ false
+    strange c great = ap (λ hs. nat_lt capacity (entries_cost hs)) (none_kept (λ (e : Entry). e.column == c) es (recursion_from_All (λ (e : Entry). e.column == c ≡ false) es (λ k d below. let small = entries.columns k d below in ne_eqb (get_or es k d).column c (λ same. omega arith))))
+
 pub IsFitted-start : (es : List Entry) (cols : List Column) → AreEntries es → 0 < length es → AreColumns [] cols → IsFitted es 0 cols
 IsFitted-start [] cols entries some are = absurd (omega arith)
 IsFitted-start (e ∷ es) cols entries some are = record {
@@ -54,6 +75,28 @@ IsFitted-whole es count was fitted within all =
     let none : length es - count ≡ 0 = omega arith in
     let same : length es ≡ count = omega arith in
     same ∙ sym (ap (λ n. first_fit n count es) none) ∙ fitted.rest
+
+-- ---- whether a column sends
+
+pub NoneSends-start : NoneSends (replicate 64 no_column)
+NoneSends-start = All-replicate (λ (column : Column). column.load ≤ capacity) 64 no_column (omega arith)
+
+NoneSends-set : (cols : List Column) (c : ℕ) (column : Column) → c < length cols → NoneSends cols → nat_lt capacity (get_or (set cols c column) c no_column).load ≡ false → NoneSends (set cols c column)
+NoneSends-set cols c column within none small =
+    let is = ap (λ (column : Column). column.load) (get_or-set_same cols c column no_column within) in
+    let fits = ltb-false capacity (get_or (set cols c column) c no_column).load small in
+    All-set (λ (column : Column). column.load ≤ capacity) cols c column (omega arith) none
+
+-- the column that changed is looked at alone
+pub NoneSends-next : (es : List Entry) (i : ℕ) (d : Entry) (cols : List Column) (column : Column) (sends : Bool) → AreEntries es → i < length es → AreColumns (take i es) cols → (sends ≡ false → NoneSends cols)
+    → (sends || nat_lt capacity (get_or (set cols (get_or es i d).column column) (get_or es i d).column no_column).load) ≡ false → NoneSends (set cols (get_or es i d).column column)
+NoneSends-next es i d cols column true entries below are none small = absurd (true≢false small)
+NoneSends-next es i d cols column false entries below are none small =
+    let len = are.len in
+    let within = entries.columns i d below in
+    NoneSends-set cols (get_or es i d).column column (omega arith) (none refl) small
+
+-- ---- the cut
 
 -- the counts so far, and those of the rest
 pub record IsCut (es : List Entry) (counts : List ℕ) (rest : List Entry) : Type 0 where

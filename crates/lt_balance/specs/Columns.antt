@@ -3,6 +3,7 @@ use Rattle.std.specs.Prelude.{◌≡◌, ℕ, ◌<◌, ◌≤◌, List, length, 
 use Rattle.std.specs.List.{All}
 use Rattle.lt_tables.specs.declared.Entry.{Entry}
 use Rattle.lt_tables.specs.declared.Sending.{Sending}
+use Rattle.lt_tables.specs.Bucket.{capacity}
 use Rattle.lt_tables.specs.Placement.{column_load, column_mark, sent_cost, room}
 use Rattle.lt_balance.specs.declared.columns.Column.{Column}
 
@@ -18,6 +19,10 @@ column_of es c = record { load = column_load es c; mark = column_mark es c; sent
 pub record AreColumns (es : List Entry) (columns : List Column) : Type 0 where
   pub len : length columns ≡ 64
   pub each : (c : ℕ) → c < 64 → slice_index_or columns c no_column ≡ column_of es c
+
+-- the entries of each column fit in a bucket
+abbrev pub NoneSends : List Column → Type 0
+NoneSends columns = All (λ (column : Column). column.load ≤ capacity) columns
 
 -- no entry has a greater suffix
 abbrev pub NoneAbove : List Entry → ℕ → Type 0

@@ -1,3 +1,4 @@
+use crate::checks::{check, same};
 use lt_line::{Bad, Command, Lines, Replies, read_command};
 use lt_page::NoMemory;
 use std::alloc::{AllocError, Global};
@@ -51,7 +52,7 @@ fn lines_are_read_as_commands(rt: HostRuntime) {
         (b"", Command::Bad(Bad::Syntax)),
     ];
     for (line, want) in rows {
-        assert_eq!(rt; read_command(line), want);
+        same(&rt, read_command(line), want);
     }
 }
 
@@ -82,17 +83,17 @@ fn limits_are_kept(rt: HostRuntime) -> Result<(), NoMemory> {
 #[test]
 fn lines_come_out_of_pieces_however_they_are_cut(rt: HostRuntime) -> Result<(), NoMemory> {
     let mut lines = Lines::new(rt.alloc())?;
-    assert_eq!(rt; lines.feed(b"get"), 3);
-    assert!(rt; !lines.ready());
-    assert!(rt; lines.has_rest());
-    assert_eq!(rt; lines.feed(b" a\nstat\n"), 3);
-    assert!(rt; lines.ready());
-    assert_eq!(rt; lines.command(), Command::Get { key: b"a" });
+    same(&rt, lines.feed(b"get"), 3);
+    check(&rt, !lines.ready());
+    check(&rt, lines.has_rest());
+    same(&rt, lines.feed(b" a\nstat\n"), 3);
+    check(&rt, lines.ready());
+    same(&rt, lines.command(), Command::Get { key: b"a" });
     lines.next();
-    assert!(rt; !lines.has_rest());
-    assert_eq!(rt; lines.feed(b"stat\n"), 5);
-    assert!(rt; lines.ready());
-    assert_eq!(rt; lines.command(), Command::Stat);
+    check(&rt, !lines.has_rest());
+    same(&rt, lines.feed(b"stat\n"), 5);
+    check(&rt, lines.ready());
+    same(&rt, lines.command(), Command::Stat);
     Ok(())
 }
 
@@ -136,22 +137,22 @@ fn add_if_it_fits(replies: &mut Replies, text: &[u8]) -> usize {
 fn settled_replies_are_dropped_and_their_room_comes_back(rt: HostRuntime) -> Result<(), NoMemory> {
     let mut replies = Replies::new(rt.alloc())?;
     let text = vec![in rt.alloc(); b'x'; 40_000]?;
-    assert_eq!(rt; add_if_it_fits(&mut replies, &text), 25_536);
-    assert_eq!(rt; replies.settled(), b"".as_slice());
+    same(&rt, add_if_it_fits(&mut replies, &text), 25_536);
+    same(&rt, replies.settled(), b"".as_slice());
     replies.settle();
-    assert_eq!(rt; add_if_it_fits(&mut replies, b"OK\n"), 25_533);
-    assert_eq!(rt; drop_one_by_one(&mut replies), 40_000);
+    same(&rt, add_if_it_fits(&mut replies, b"OK\n"), 25_533);
+    same(&rt, drop_one_by_one(&mut replies), 40_000);
 
     // The text that is left goes to the front before the long one is added.
-    assert_eq!(rt; add_if_it_fits(&mut replies, &text), 25_533);
+    same(&rt, add_if_it_fits(&mut replies, &text), 25_533);
     replies.settle();
-    assert!(rt; replies.settled().starts_with(b"OK\nx"));
+    check(&rt, replies.settled().starts_with(b"OK\nx"));
 
     add_if_it_fits(&mut replies, b"BAD key\n");
     replies.drop_unsettled();
-    assert_eq!(rt; replies.room(), 25_533);
+    same(&rt, replies.room(), 25_533);
     replies.settle();
-    assert_eq!(rt; drop_one_by_one(&mut replies), 40_003);
-    assert_eq!(rt; replies.room(), 65_536);
+    same(&rt, drop_one_by_one(&mut replies), 40_003);
+    same(&rt, replies.room(), 65_536);
     Ok(())
 }

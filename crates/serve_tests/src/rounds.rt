@@ -2,6 +2,7 @@ ghost use Rattle.std.specs.Prelude.{◌≡◌, ◌≤◌, true};
 ghost use Rattle.lt_store.specs.Open.{blocks_of};
 ghost use Rattle.lt_serve.specs.View.{store_in};
 
+use crate::checks::same;
 use lt_device::{Device, MemDevice, Steady};
 use lt_io::{MemSink, SteadySource};
 use lt_line::Replies;
@@ -59,15 +60,15 @@ fn a_round_that_fails_keeps_the_replies_before_its_first_write(
     let piece = b"get a\nput a 1\nget a\n";
     let mut device = first.crash(alloc, &[], 999, Vec::new(alloc), None)?;
     let (taken, settled) = one_round(alloc, &mut device, piece)?;
-    assert_eq!(rt; taken, Some(Ok(piece.len())));
-    assert_eq!(rt; settled.as_slice(), b"NONE\nOK\nVALUE 1\n".as_slice());
+    same(&rt, taken, Some(Ok(piece.len())));
+    same(&rt, settled.as_slice(), b"NONE\nOK\nVALUE 1\n".as_slice());
 
     // Opening makes so many calls; the first write of the commit fails.
     let opening = device.reads();
     let mut device = first.crash(alloc, &[], 999, vec![in alloc; opening]?, None)?;
     let (taken, settled) = one_round(alloc, &mut device, piece)?;
-    assert_eq!(rt; taken, Some(Err(RoundFault::Device)));
-    assert_eq!(rt; settled.as_slice(), b"NONE\n".as_slice());
+    same(&rt, taken, Some(Err(RoundFault::Device)));
+    same(&rt, settled.as_slice(), b"NONE\n".as_slice());
     Ok(())
 }
 
@@ -87,8 +88,8 @@ fn a_round_stops_where_there_is_no_room_for_a_reply(rt: HostRuntime) -> Result<(
     }
     let (taken, settled) = one_round(alloc, &mut device, &piece)?;
     // Each value takes 3,007 bytes; behind 21 of them there is no room for another.
-    assert_eq!(rt; taken, Some(Ok(put + 21 * 6)));
-    assert_eq!(rt; settled.len(), 3 + 21 * 3007);
+    same(&rt, taken, Some(Ok(put + 21 * 6)));
+    same(&rt, settled.len(), 3 + 21 * 3007);
     Ok(())
 }
 
@@ -98,9 +99,10 @@ fn a_source_is_served_to_its_end(rt: HostRuntime) -> Result<(), NoMemory> {
     let mut device = Steady::new(alloc, BLOCKS)?;
     let mut sink = MemSink::new(alloc, 99, 3, Vec::new(alloc))?;
     let mut source = SteadySource::new(Vec::new(alloc));
-    assert_eq!(rt;
+    same(
+        &rt,
         serve(alloc, &mut source, &mut sink, &mut device),
-        Served::Damaged(0)
+        Served::Damaged(0),
     );
     let _ = init(alloc, &mut device, 1, 2, 1);
     let mut pieces = Vec::new(alloc);
@@ -108,11 +110,16 @@ fn a_source_is_served_to_its_end(rt: HostRuntime) -> Result<(), NoMemory> {
         pieces.push(piece.as_bytes().to_vec(alloc)?)?;
     }
     let mut source = SteadySource::new(pieces);
-    assert_eq!(rt;
+    same(
+        &rt,
         serve(alloc, &mut source, &mut sink, &mut device),
-        Served::Done
+        Served::Done,
     );
-    assert_eq!(rt; sink.taken(), b"OK\nVALUE 1\nNONE\nBAD end\n".as_slice());
+    same(
+        &rt,
+        sink.taken(),
+        b"OK\nVALUE 1\nNONE\nBAD end\n".as_slice(),
+    );
     Ok(())
 }
 
@@ -139,7 +146,7 @@ fn outcomes_have_their_texts(rt: HostRuntime) -> Result<(), NoMemory> {
         let mut replies = Replies::new(alloc)?;
         add_outcome(&mut replies, &outcome, b"abc");
         replies.settle();
-        assert_eq!(rt; replies.settled(), want.as_bytes());
+        same(&rt, replies.settled(), want.as_bytes());
     }
     Ok(())
 }
