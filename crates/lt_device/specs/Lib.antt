@@ -1,7 +1,6 @@
 pub mod Calls
 pub mod Faults
 pub mod History
-pub mod Laws
 pub mod Memory
 pub mod Moments
 pub mod Reads

@@ -1,10 +1,10 @@
 -- The open group on the page that will be its content.
-use Rattle.std.specs.Prelude.{◌≡◌, ℕ, ◌+◌, ◌-◌, ◌<◌, ◌≤◌, ◌^◌, List, [], ◌∷◌, ◌++◌, length, drop, IsTrue, unwrap_or}
+use Rattle.std.specs.Prelude.{◌≡◌, ℕ, ◌+◌, ◌-◌, ◌≤◌, List, [], ◌∷◌, ◌++◌, length, drop, IsTrue, unwrap_or}
 use Rattle.std.specs.Prelude.{slice_range}
-use Rattle.std.specs.List.{AllByRecursion, list_all}
+use Rattle.std.specs.List.{AllByRecursion}
 use Rattle.lt_terms.specs.Bytes.{zeros}
 use Rattle.lt_terms.specs.Items.{Item, is_valid, items_of, spellings, total_cost}
-use Rattle.lt_format.specs.Log.{group_page, group_room, log_room}
+use Rattle.lt_format.specs.Log.{group_page, group_room}
 
 -- the items that stand on the page: so many, in so many bytes behind the four of the header
 abbrev pub items_on : List ℕ → ℕ → ℕ → List Item
@@ -28,16 +28,3 @@ Gathers item old used new now = (count : ℕ) (items : List Item) → IsGathered
 pub record Finishes (count used : ℕ) (old new : List ℕ) : Type 0 where
   pub content : (items : List Item) → IsGathered old count used items → new ≡ group_page items
   pub gathered : (items : List Item) → IsGathered old count used items → IsGathered new count used items
-
--- these are the items of a group, and this is what they cost
-pub record AreGroup (items : List Item) (cost : ℕ) : Type 0 where
-  pub valid : IsTrue (list_all is_valid items)
-  pub some : 0 < length items
-  pub cost_is : cost ≡ total_cost items
-
--- these are items of a log that began at this number of writes, and this is what they cost
-pub record AreLogged (writes : ℕ) (items : List Item) (cost : ℕ) : Type 0 where
-  pub valid : IsTrue (list_all is_valid items)
-  pub cost_is : cost ≡ total_cost items
-  pub room : total_cost items ≤ log_room
-  pub number : writes + length items < 2 ^ 64

@@ -1,11 +1,12 @@
 //! A group of items on the page that is its content.
 
-ghost use Rattle.std.specs.Prelude.{◌≡◌, ◌+◌, ◌≤◌, IfSome, IsTrue};
+ghost use Rattle.std.specs.Prelude.{◌≡◌, ◌+◌, ◌<◌, ◌≤◌, IfSome, IsTrue, length};
+ghost use Rattle.std.specs.List.{list_all};
 ghost use Rattle.std.specs.Option.{option_map};
-ghost use Rattle.lt_terms.specs.Items.{is_valid, item_cost};
+ghost use Rattle.lt_terms.specs.Items.{is_valid, item_cost, total_cost};
 ghost use Rattle.lt_item.specs.Views.{item_of};
 ghost use Rattle.lt_format.specs.Log.{group_room, group_on};
-ghost use Rattle.lt_redo.specs.Group.{AreGroup, Finishes, Gathers};
+ghost use Rattle.lt_redo.specs.Group.{Finishes, Gathers};
 
 use lt_bucket::{Items, put_item};
 use lt_item::ItemView;
@@ -36,7 +37,9 @@ pub fn finish(page: &mut Page, count: u16, used: u16)
 #[tactic(auto, unfolding(lt_format::specs::Log::group_on))]
 pub fn group_on(page: &Page) -> Option<(Items<'_>, u16)>
     ensures spelled { option_map (λ group. group.0) result ≡ group_on page.now }
-    ensures group { IfSome result (λ group. AreGroup group.0 group.1) }
+    ensures valid { IfSome result (λ group. IsTrue (list_all is_valid group.0)) }
+    ensures some { IfSome result (λ group. 0 < length group.0) }
+    ensures cost { IfSome result (λ group. group.1 ≡ total_cost group.0) }
 {
     let count = page.number_u16(0);
     let used = page.number_u16(2);

@@ -1,14 +1,13 @@
 //! The items of a log, as its groups are read one after another.
 
-ghost use Rattle.std.specs.Prelude.{◌≡◌, ◌++◌, [], IfOk, IfSome, IsTrue, OnOk};
+ghost use Rattle.std.specs.Prelude.{◌≡◌, ◌+◌, ◌^◌, ◌<◌, ◌≤◌, ◌++◌, [], length, IfOk, IfSome, IsTrue};
 ghost use Rattle.std.specs.List.{list_all};
 ghost use Rattle.std.specs.Option.{option_map};
-ghost use Rattle.lt_terms.specs.Items.{is_valid};
-ghost use Rattle.lt_format.specs.Log.{group_on};
-ghost use Rattle.lt_redo.specs.Group.{AreLogged};
+ghost use Rattle.lt_terms.specs.Items.{is_valid, total_cost};
+ghost use Rattle.lt_format.specs.Log.{group_on, log_room};
 
 use crate::group::group_on;
-use lt_bucket::{Item, Items};
+use lt_bucket::{Item, push_all};
 use lt_page::{NoMemory, Page};
 use std::alloc::Global;
 
@@ -21,7 +20,10 @@ pub struct Replay {
     pub writes: u64,
     pub items: Vec<Item>,
     cost: u32,
-    ghost logged: { AreLogged writes items.items cost },
+    ghost valid: { IsTrue (list_all is_valid items.items) },
+    ghost cost_is: { cost ≡ total_cost items.items },
+    ghost room: { total_cost items.items ≤ log_room },
+    ghost number: { writes + length items.items < 2 ^ 64 },
 }
 
 impl Replay {
@@ -67,15 +69,4 @@ impl Replay {
             cost,
         }))
     }
-}
-
-/// Copies these items behind the others.
-fn push_all(alloc: Global, all: &mut Vec<Item>, items: Items<'_>) -> Result<(), NoMemory>
-    requires { IsTrue (list_all is_valid items) }
-    ensures { OnOk result (all.new.items ≡ all.old.items ++ items.entry) }
-{
-    for item in items {
-        all.push(Item::copy(alloc, &item)?)?;
-    }
-    Ok(())
 }
