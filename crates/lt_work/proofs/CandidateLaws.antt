@@ -21,6 +21,7 @@ use Rattle.lt_compact.specs.Extents.{AllTaken, GoesWith}
 use Rattle.lt_compact.specs.Jobs.{begun}
 use Rattle.lt_compact.proofs.BeginLaws.{begun-goes}
 use Rattle.lt_work.specs.Work.{IsCandidate, SuitsTrie, WorkView}
+use Rattle.lt_tables.proofs.ListLaws.{all_filter, all_join}
 
 -- what a walk finds has what all have, and passes the test
 record Found {A : Type 0} (P : A → Type 0) (p : A → Bool) (x : A) : Type 0 where
@@ -46,18 +47,6 @@ sifted P q (x ∷ xs) all = by_test (q x) refl (sifted P q xs all.1)
     by_test : (b : Bool) → q x ≡ b → AllByRecursion (λ x. P x × (q x ≡ true)) (filter q xs) → AllByRecursion (λ x. P x × (q x ≡ true)) (cond b (x ∷ filter q xs) (filter q xs))
     by_test true is rest = ((all.0, is), rest)
     by_test false is rest = rest
-
-joined : {A : Type 0} (P : A → Type 0) (xs ys : List A) → AllByRecursion P xs → AllByRecursion P ys → AllByRecursion P (xs ++ ys)
-joined P [] ys a b = b
-joined P (x ∷ xs) ys a b = (a.0, joined P xs ys a.1 b)
-
-kept_sifted : {A : Type 0} (P : A → Type 0) (q : A → Bool) (xs : List A) → AllByRecursion P xs → AllByRecursion P (filter q xs)
-kept_sifted P q [] all = tt
-kept_sifted P q (x ∷ xs) all = by_test (q x) (kept_sifted P q xs all.1)
-  where
-    by_test : (b : Bool) → AllByRecursion P (filter q xs) → AllByRecursion P (cond b (x ∷ filter q xs) (filter q xs))
-    by_test true rest = (all.0, rest)
-    by_test false rest = rest
 
 -- ---- the nodes that a trie lists
 
@@ -109,8 +98,8 @@ all_full : (levels : ℕ) (trie : Trie) (P : NodeId × Node → Type 0) (n : ℕ
 unfolding full_nodes
 all_full levels trie P zero all = tt
 all_full levels trie P (suc n) all =
-    joined (λ e. P e × (is_full levels e ≡ true)) (filter (is_full levels) (level_nodes trie n)) (full_nodes levels trie n)
-    (sifted P (is_full levels) (level_nodes trie n) (kept_sifted P (λ e. e.0.level == n) trie all)) (all_full levels trie P n all)
+    all_join (λ e. P e × (is_full levels e ≡ true)) (filter (is_full levels) (level_nodes trie n)) (full_nodes levels trie n)
+    (sifted P (is_full levels) (level_nodes trie n) (all_filter P (λ e. e.0.level == n) trie all)) (all_full levels trie P n all)
 
 -- what a candidate is
 pub record IsNext (levels : ℕ) (trie : Trie) (passed_over : List Bool) (id : NodeId) : Type 0 where
