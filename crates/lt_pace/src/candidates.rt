@@ -1,9 +1,10 @@
 //! The node that is to be dealt or rewritten next.
 
-ghost use Rattle.std.specs.Prelude.{◌≡◌, ◌==◌, ◌&&◌, ◌||◌, None, not};
-ghost use Rattle.std.specs.List.{find};
+ghost use Rattle.std.specs.Prelude.{◌≡◌, ◌+◌, ◌*◌, ◌==◌, ◌&&◌, ◌||◌, None, if◌then◌else◌, not};
+ghost use Rattle.std.specs.List.{find, list_any};
 ghost use Rattle.std.specs.Option.{option_map};
-ghost use Rattle.lt_image.specs.Needs.{is_full};
+ghost use Rattle.lt_format.specs.Trie.{node_at};
+ghost use Rattle.lt_image.specs.Needs.{is_full, is_twice_full};
 ghost use Rattle.lt_pace.specs.Candidates.{full_nodes, name_of, next_full, next_slack};
 ghost use Rattle.lt_pace.specs.Marks.{is_marked};
 
@@ -56,14 +57,44 @@ fn unmarked_on(trie: &Trie, level: u8, passed_over: &Marks, without_slack: &Mark
     Some(entry.node())
 }
 
+/// Whether a node's pile is a full inner one, or a due one of the last level.
+pub fn is_full_at(trie: &Trie, node: NodeId) -> bool
+    ensures { result ≡ is_full trie.now.levels (node, node_at trie.now.nodes node) }
+{
+    full_at(trie.levels(), node.level, trie.base(node)) <= trie.pile(node).len() as u64
+}
+
+/// Whether some pile has twice as many tables as make it full.
+pub fn any_twice_full(trie: &Trie) -> bool
+    ensures { result ≡ list_any (is_twice_full trie.now.levels) trie.now.nodes }
+{
+    let levels = trie.levels();
+    trie.nodes()
+        .iter()
+        .any(|entry| is_twice_full(levels, entry))
+}
+
 /// Whether a pile is a full inner one, or a due one of the last level.
 fn is_full(levels: u8, entry: &NodeEntry) -> bool
     ensures { result ≡ is_full levels entry.now }
 {
-    let full_at = if u16::from(entry.node().level) + 1 == u16::from(levels) {
-        2 * u64::from(entry.base()) + 8
+    full_at(levels, entry.node().level, entry.base()) <= entry.tables().len() as u64
+}
+
+/// Whether a pile has twice as many tables as make it full.
+fn is_twice_full(levels: u8, entry: &NodeEntry) -> bool
+    ensures { result ≡ is_twice_full levels entry.now }
+{
+    2 * full_at(levels, entry.node().level, entry.base()) <= entry.tables().len() as u64
+}
+
+/// How many tables make a pile of a level full, whose last rewriting gave so many.
+fn full_at(levels: u8, level: u8, base: u32) -> u64
+    ensures { result ≡ (if level + 1 == levels then 2 * base + 8 else 8) }
+{
+    if u16::from(level) + 1 == u16::from(levels) {
+        2 * u64::from(base) + 8
     } else {
         8
-    };
-    full_at <= entry.tables().len() as u64
+    }
 }

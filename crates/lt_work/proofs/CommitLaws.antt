@@ -16,7 +16,6 @@ use Rattle.lt_format.specs.Snapshot.{Named, after_commit, log_moves, may_commit}
 use Rattle.lt_format.specs.Trie.{IsTrie, Node, Trie, all_below, all_distinct, empty_node, groups_for, is_last_level, is_node, named, node_at, same_node}
 use Rattle.lt_format.proofs.FreeLaws.{change-named, freed-once, freed-was}
 use Rattle.lt_format.proofs.KeepLaws.{after_change-trie}
-use Rattle.lt_format.proofs.ShapeLaws.{node_at-node}
 use Rattle.lt_format.proofs.TrieLaws.{same_node-itself, same_node-same}
 use Rattle.lt_image.specs.After.{Gets, SameExtents}
 use Rattle.lt_image.specs.Needs.{has_slack, is_slack, node_items}
@@ -36,7 +35,7 @@ use Rattle.lt_compact.proofs.CommitLaws.{IsFor, job-committed, job-fits, job-rea
 use Rattle.lt_compact.proofs.ExtentLaws.{apart-joined, distinct_behind}
 use Rattle.lt_work.specs.Committing.{CanCommit, cleared_of, committed_work, slackless_after}
 use Rattle.lt_work.specs.Work.{IsTrueOn, SuitsTrie, WorkView, reserved_by}
-use Rattle.lt_work.proofs.CandidateLaws.{IsListed, all-listed, full-some, node-of-five}
+use Rattle.lt_work.proofs.CandidateLaws.{IsListed, all-listed, job-node, node-of-five}
 use Rattle.lt_work.proofs.OutlastLaws.{all-absent, all-alike, none-wait, of_job, slackless-same}
 
 -- ---- the change may be committed
@@ -142,7 +141,7 @@ clear-size : (marks : List Bool) (children : List ChildChange) → length (clear
 clear-size marks [] = refl
 clear-size marks (c ∷ cs) = clear-size (unmarked marks c.node) cs ∙ length-set marks (place_of c.node) false
 
-slackless-size : (change : Change) (marks : List Bool) → length (slackless_after change marks) ≡ length marks
+pub slackless-size : (change : Change) (marks : List Bool) → length (slackless_after change marks) ≡ length marks
 slackless-size (flush tables) marks = refl
 slackless-size (deal node dropped children) marks = clear-size marks children
 slackless-size (rewrite node tables groups) marks = length-set marks (place_of node) true
@@ -284,7 +283,7 @@ commit-true m n old new taken w change c geometry after same fresh true_on = rec
     by_level true last =
         let r = ready-rewrites m old new job change c.ready.change_is last (subst (SameExtents m.geometry old new) (of_job w job c.ready.in_flight) fresh) mine.shaped (true_on.job job c.ready.in_flight) in
         let fit : fits m.geometry.levels m.manifest.trie (rewrite job.node r.tables r.groups) ≡ true = ap (fits m.geometry.levels m.manifest.trie) (sym r.is) ∙ (commit-for m taken w change c).fit in
-        let node = node_at-node m.geometry.levels m.manifest.header.extents m.manifest.trie job.node c.trie_is.nodes (full-some m.geometry.levels m.manifest.trie job.node (c.suits.candidate job c.ready.in_flight).full) in
+        let node = job-node m.geometry.levels m.manifest.header.extents m.manifest.trie job c.trie_is mine.shaped in
         let t : IsTrie m.geometry.levels m.manifest.header.extents n.manifest.trie = subst (IsTrie m.geometry.levels m.manifest.header.extents) (sym after)
         (after_change-trie m.geometry.levels m.manifest.header.extents m.manifest.trie change c.least c.trie_is (commit-for m taken w change c).fit (commit-below m taken w change c)) in
         let gets = subst (λ g. Gets g new (record { node = job.node; tables = r.tables; kept_groups = 0; groups = r.groups }) (rewrite_share job.node (pile_items m.geometry old (node_at m.manifest.trie job.node).tables))) (sym geometry) r.gets in

@@ -29,7 +29,7 @@ use Rattle.lt_compact.specs.Extents.{GoesWith}
 use Rattle.lt_compact.specs.Jobs.{JobView, taken_in}
 use Rattle.lt_compact.proofs.LocalLaws.{flush-shaped, same-keeps, flush-keeps_job}
 use Rattle.lt_compact.proofs.TakeLaws.{reserved-distinct, reserved-taken, was_free}
-use Rattle.lt_work.specs.Work.{IsTrueOn, SuitsTrie, WorkView, at_rest, flushed_work, reserved_by, reserved_for}
+use Rattle.lt_work.specs.Work.{IsTrueOn, SuitsTrie, WorkView, at_rest, flushed_work, may_begin, reserved_by, reserved_for}
 
 -- ---- fresh work
 
@@ -216,12 +216,23 @@ flushed-full levels trie numbers id deep full = by_root (same_node id root) refl
         let more : length (node_at now id).tables ≡ length (node_at trie root).tables + length numbers = ap length grown ∙ length-append (node_at trie root).tables numbers in
         ap (λ b. nat_le (cond b (2 * (node_at now id).base + 8) 8) (length (node_at now id).tables)) inner ∙ le-leb 8 (length (node_at now id).tables) (omega (arith, was, same, more))
 
+-- and where a job may have begun it still may
+flushed-begins : (levels : ℕ) (trie : Trie) (numbers : List ℕ) (without_slack : List Bool) (id : NodeId) → 2 ≤ levels → may_begin levels trie without_slack id ≡ true → may_begin levels (after_change trie (flush numbers)) without_slack id ≡ true
+flushed-begins levels trie numbers without_slack id deep begins = by_full (is_full levels (id, node_at trie id)) refl
+  where
+    rest : Bool
+    rest = is_last_level levels id && not (is_marked without_slack id)
+
+    by_full : (b : Bool) → is_full levels (id, node_at trie id) ≡ b → may_begin levels (after_change trie (flush numbers)) without_slack id ≡ true
+    by_full true full = ap (λ b. b || rest) (flushed-full levels trie numbers id deep full)
+    by_full false part = or_right (is_full levels (id, node_at (after_change trie (flush numbers)) id)) rest (sym (ap (λ b. b || rest) part) ∙ begins)
+
 -- A FLUSH into extents that were free keeps what suits
 pub flushed-suits : (levels extents count : ℕ) (trie : Trie) (taken now : List Bool) (numbers : List ℕ) (w : WorkView) → 2 ≤ levels → IsTrie levels extents trie → 1 ≤ length numbers → Reserves count taken now [] numbers
     → SuitsTrie levels trie taken w → SuitsTrie levels (after_change trie (flush numbers)) now (flushed_work w)
 flushed-suits levels extents count trie taken now numbers w deep t some r suits = record {
   job = λ j is. goes-flushed levels extents count trie taken now numbers j deep t some r (suits.job j is);
-  candidate = λ j is. record { full = flushed-full levels trie numbers j.node deep (suits.candidate j is).full; unmarked = none-marked most_nodes (place_of j.node) };
+  candidate = λ j is. record { begins = flushed-begins levels trie numbers w.without_slack j.node deep (suits.candidate j is).begins; unmarked = none-marked most_nodes (place_of j.node) };
   passed_over = length-replicate most_nodes false;
   without_slack = suits.without_slack;
 }

@@ -1,9 +1,10 @@
 -- What one step of the job in flight keeps, and what giving it up rests on.
 use Rattle.std.proofs.Common.{◌≡◌, ◌≢◌, ℕ, zero, suc, ◌+◌, ◌<◌, ◌≤◌, refl, sym, ap, subst, ◌∙◌, List, [], ◌∷◌, ◌++◌, length, Bool, true, false, not, cond, ◌&&◌, ◌||◌, Option, Some, None, arith, append-nil}
-use Rattle.std.specs.Prelude.{◌==◌, IsTrue, nat_lt, drop}
+use Rattle.std.specs.Prelude.{◌==◌, IsFalse, IsTrue, nat_lt, drop}
 use Rattle.std.specs.List.{AllByRecursion}
 use Rattle.std.proofs.lemmas.Option.{none-some}
-use Rattle.std.proofs.lemmas.Bool.{eqb-true, leb-true, ltb-false, ltb-true, true≢false}
+use Rattle.std.proofs.lemmas.Bool.{and_parts, eqb-true, leb-true, ltb-false, ltb-true, or_right, true≢false}
+use Rattle.std.proofs.lemmas.List.{length-set}
 use Rattle.std.proofs.lemmas.List.Sums.{sum_by-cons}
 use Rattle.lt_terms.specs.Bytes.{Image, is_in}
 use Rattle.lt_terms.specs.Items.{Item}
@@ -17,28 +18,28 @@ use Rattle.lt_device.proofs.Shows.{shows-widens}
 use Rattle.lt_format.specs.declared.geometry.Geometry.{Geometry}
 use Rattle.lt_format.specs.declared.node_id.NodeId.{NodeId}
 use Rattle.lt_format.specs.Snapshot.{Named}
-use Rattle.lt_format.specs.Trie.{IsTrie, Trie, is_node, named, node_at, same_node}
+use Rattle.lt_format.specs.Trie.{IsTrie, Node, Trie, is_last_level, is_node, named, node_at, same_node}
 use Rattle.lt_format.proofs.Numbers.{times, absent-times, length-without, without, others-stay}
 use Rattle.lt_format.proofs.TrieLaws.{same_node-same}
 use Rattle.lt_image.specs.After.{SameExtents}
-use Rattle.lt_image.specs.Needs.{waits}
+use Rattle.lt_image.specs.Needs.{has_slack, is_slack, node_items, waits}
 use Rattle.lt_image.specs.Shares.{needed}
 use Rattle.lt_image.specs.Versions.{free_extents}
 use Rattle.lt_pace.specs.Candidates.{PassedOverWait}
-use Rattle.lt_pace.specs.Marks.{is_marked, marked, most_nodes}
+use Rattle.lt_pace.specs.Marks.{is_marked, marked, most_nodes, place_of}
 use Rattle.lt_pace.proofs.MarkLaws.{mark-one}
 use Rattle.lt_compact.specs.declared.step.Stepped.{Stepped}
 use Rattle.lt_compact.specs.declared.step.Stepped.TheVariants as steps
 use Rattle.lt_compact.specs.Extents.{GoesWith}
 use Rattle.lt_compact.specs.Filling.{FillsWithin}
-use Rattle.lt_compact.specs.Jobs.{JobView, KeepsJob, IsShaped, Stage, scanning, planned, filling, is_shaped_stage, is_whole, taken_in}
+use Rattle.lt_compact.specs.Jobs.{JobView, KeepsJob, IsShaped, Stage, scanning, planned, filling, is_shaped_stage, is_told_slack, is_whole, taken_in}
 use Rattle.lt_compact.specs.Plans.{extents_for}
-use Rattle.lt_compact.specs.Steps.{Advances, AdvancesFrom, InExtents, next_extents}
+use Rattle.lt_compact.specs.Steps.{Advances, AdvancesFrom, FillsOne, InExtents, next_extents}
 use Rattle.lt_compact.proofs.ExtentLaws.{apart-joined, not_in_part, others-same}
-use Rattle.lt_compact.proofs.LocalLaws.{plan-waits, short-waits}
-use Rattle.lt_work.specs.Advancing.{given_up, needs_more}
-use Rattle.lt_work.specs.Work.{IsTrueOn, WorkView, reserved_by}
-use Rattle.lt_work.proofs.CandidateLaws.{IsListed, all-listed, node-of-five}
+use Rattle.lt_compact.proofs.LocalLaws.{plan-slack, plan-waits, short-waits}
+use Rattle.lt_work.specs.Advancing.{after_step, given_up, given_up_slackless, is_in_vain, needs_more, tells_no_slack}
+use Rattle.lt_work.specs.Work.{IsCandidate, IsTrueOn, SuitsTrie, WorkView, may_begin, reserved_by}
+use Rattle.lt_work.proofs.CandidateLaws.{IsListed, all-listed, job-node, node-of-five}
 use Rattle.lt_work.proofs.OutlastLaws.{of_job, slackless-same, wait-same}
 
 -- ---- what a step may write
@@ -129,22 +130,23 @@ free-unnamed m taken are =
         decide zero none = let e : 0 + i ≡ i = omega arith in absurd (true≢false (sym there ∙ absent-times i (named m.manifest.trie) (ap (λ x. times x (named m.manifest.trie)) (sym e) ∙ none)))
         decide (suc n) some = omega (arith, some)
 
+-- a job that plans has scanned all of its tables
+scanned-all : (m : Named) (j : JobView) (n : ℕ) (kept : List Item) (loose : Bool) → j.stage ≡ scanning n kept loose → IsShaped m.geometry.levels m.manifest.trie j → nat_lt n (length j.sources) ≡ false → n ≡ length j.sources
+scanned-all m j n kept loose is shaped none =
+    let low : n ≤ length j.sources = leb-true n (length j.sources) (subst (λ (s : Stage). is_shaped_stage m.geometry.levels m.manifest.trie j.node j.sources s ≡ true) is shaped.stage) in
+    let high : length j.sources ≤ n = ltb-false n (length j.sources) none in
+    omega (arith, low, high)
+
 -- a job with its node's whole pile that needs more than is free shows that the node waits
 stage-waits : (m : Named) (before : Image) (g : Geometry) (old new : Option Image) (trie : Trie) (taken now : List Bool) (j k : JobView) (stage : Stage) (stepped : Stepped) → m.manifest.trie ≡ trie → j.stage ≡ stage → AdvancesFrom stage g old new trie taken now j k stepped
     → needs_more (free_count taken) stepped ≡ true → free_extents m ≤ free_count taken → IsShaped m.geometry.levels m.manifest.trie j → length j.sources ≡ length (node_at m.manifest.trie j.node).tables → KeepsJob m before j → waits m before (j.node, node_at m.manifest.trie j.node) ≡ true
 stage-waits m before g old new trie taken now j k (scanning n kept loose) steps.More at is a more free shaped whole keeps = absurd (true≢false (sym more))
 stage-waits m before g old new trie taken now j k (scanning n kept loose) (steps.Planned wanted slack) at is a more free shaped whole keeps =
-    let all : n ≡ length j.sources = scanned_all n kept loose is shaped a.0.0 in
+    let all : n ≡ length j.sources = scanned-all m j n kept loose is shaped a.0.0 in
     let back : trie ≡ m.manifest.trie = sym at in
     let few : free_count taken < wanted = ltb-true (free_count taken) wanted more in
     let need : wanted ≡ needed m.geometry.levels m.manifest.trie j.node kept = a.0.1.wanted_is ∙ (λ i. needed (shaped.same i) (back i) j.node kept) in
     plan-waits m before j n kept loose shaped is all whole keeps (omega (arith, few, free, need))
-  where
-    scanned_all : (n : ℕ) (kept : List Item) (loose : Bool) → j.stage ≡ scanning n kept loose → IsShaped m.geometry.levels m.manifest.trie j → nat_lt n (length j.sources) ≡ false → n ≡ length j.sources
-    scanned_all n kept loose is shaped none =
-        let low : n ≤ length j.sources = leb-true n (length j.sources) (subst (λ (s : Stage). is_shaped_stage m.geometry.levels m.manifest.trie j.node j.sources s ≡ true) is shaped.stage) in
-        let high : length j.sources ≤ n = ltb-false n (length j.sources) none in
-        omega (arith, low, high)
 stage-waits m before g old new trie taken now j k (scanning n kept loose) (steps.Short short) at is a more free shaped whole keeps = absurd a.0
 stage-waits m before g old new trie taken now j k (scanning n kept loose) steps.Ready at is a more free shaped whole keeps = absurd a.0
 stage-waits m before g old new trie taken now j k (planned shares) steps.More at is a more free shaped whole keeps = absurd (true≢false (sym more))
@@ -159,28 +161,69 @@ stage-waits m before g old new trie taken now j k (filling shares numbers filled
 stage-waits m before g old new trie taken now j k (filling shares numbers filled) (steps.Short short) at is a more free shaped whole keeps = absurd a.0
 stage-waits m before g old new trie taken now j k (filling shares numbers filled) steps.Ready at is a more free shaped whole keeps = absurd (true≢false (sym more))
 
--- and it has reserved nothing
-stage-bare : (g : Geometry) (old new : Option Image) (trie : Trie) (taken now : List Bool) (j k : JobView) (stage : Stage) (stepped : Stepped) → AdvancesFrom stage g old new trie taken now j k stepped → needs_more (free_count taken) stepped ≡ true → taken_in stage ≡ []
-stage-bare g old new trie taken now j k (scanning n kept loose) stepped a more = refl
-stage-bare g old new trie taken now j k (planned shares) stepped a more = refl
-stage-bare g old new trie taken now j k (filling shares numbers filled) steps.More a more = absurd (true≢false (sym more))
-stage-bare g old new trie taken now j k (filling shares numbers filled) (steps.Planned wanted slack) a more = absurd a.0
-stage-bare g old new trie taken now j k (filling shares numbers filled) (steps.Short short) a more = absurd a.0
-stage-bare g old new trie taken now j k (filling shares numbers filled) steps.Ready a more = absurd (true≢false (sym more))
+-- what a step left that gives its job up: the extents that were taken, of which the job had reserved none
+record IsBare (taken now : List Bool) (stage : Stage) : Type 0 where
+  left : now ≡ taken
+  none : taken_in stage ≡ []
+
+stage-bare : (g : Geometry) (old new : Option Image) (trie : Trie) (taken now : List Bool) (j k : JobView) (stage : Stage) (stepped : Stepped) (free : ℕ) → AdvancesFrom stage g old new trie taken now j k stepped → (tells_no_slack stepped || needs_more free stepped) ≡ true → IsBare taken now stage
+stage-bare g old new trie taken now j k (scanning n kept loose) stepped free a gives = record { left = a.1; none = refl }
+stage-bare g old new trie taken now j k (planned shares) steps.More free a gives = absurd (true≢false (sym gives))
+stage-bare g old new trie taken now j k (planned shares) (steps.Planned wanted slack) free a gives = absurd a
+stage-bare g old new trie taken now j k (planned shares) (steps.Short short) free a gives = record { left = a.4; none = refl }
+stage-bare g old new trie taken now j k (planned shares) steps.Ready free a gives = absurd (true≢false (sym gives))
+stage-bare g old new trie taken now j k (filling shares numbers filled) steps.More free a gives = absurd (true≢false (sym gives))
+stage-bare g old new trie taken now j k (filling shares numbers filled) (steps.Planned wanted slack) free a gives = absurd a.0
+stage-bare g old new trie taken now j k (filling shares numbers filled) (steps.Short short) free a gives = absurd a.0
+stage-bare g old new trie taken now j k (filling shares numbers filled) steps.Ready free a gives = absurd (true≢false (sym gives))
+
+-- a step that tells no slack shows that its job's pile has none
+stage-slackless : (m : Named) (before : Image) (g : Geometry) (old new : Option Image) (trie : Trie) (taken now : List Bool) (j k : JobView) (stage : Stage) (stepped : Stepped) → m.manifest.trie ≡ trie → j.stage ≡ stage → AdvancesFrom stage g old new trie taken now j k stepped
+    → tells_no_slack stepped ≡ true → IsShaped m.geometry.levels m.manifest.trie j → KeepsJob m before j → is_slack m before (j.node, node_at m.manifest.trie j.node) ≡ false
+stage-slackless m before g old new trie taken now j k (scanning n kept loose) steps.More at is a tells shaped keeps = absurd (true≢false (sym tells))
+stage-slackless m before g old new trie taken now j k (scanning n kept loose) (steps.Planned wanted slack) at is a tells shaped keeps = by_level (is_last_level m.geometry.levels j.node) refl
+  where
+    pile : Node
+    pile = node_at m.manifest.trie j.node
+
+    -- what the plan told
+    told : is_told_slack m.geometry.levels m.manifest.trie j.node kept loose ≡ false
+    told = let back : m.geometry.levels ≡ j.levels = sym shaped.same in (λ i. is_told_slack (back i) (at i) j.node kept loose) ∙ sym a.0.1.slack_is ∙ not_true slack tells
+      where
+        not_true : (b : Bool) → not b ≡ true → b ≡ false
+        not_true true h = absurd (true≢false (sym h))
+        not_true false h = refl
+
+    by_level : (b : Bool) → is_last_level m.geometry.levels j.node ≡ b → is_slack m before (j.node, pile) ≡ false
+    by_level false inner = ap (λ b. b && has_slack m.geometry.levels m.manifest.trie j.node (node_items m before pile) (length pile.tables + length pile.groups)) inner
+    by_level true last = plan-slack m before j n kept loose shaped is (scanned-all m j n kept loose is shaped a.0.0) (sym (shaped.whole last)) keeps ∙ told
+stage-slackless m before g old new trie taken now j k (scanning n kept loose) (steps.Short short) at is a tells shaped keeps = absurd a.0
+stage-slackless m before g old new trie taken now j k (scanning n kept loose) steps.Ready at is a tells shaped keeps = absurd a.0
+stage-slackless m before g old new trie taken now j k (planned shares) steps.More at is a tells shaped keeps = absurd (true≢false (sym tells))
+stage-slackless m before g old new trie taken now j k (planned shares) (steps.Planned wanted slack) at is a tells shaped keeps = absurd a
+stage-slackless m before g old new trie taken now j k (planned shares) (steps.Short short) at is a tells shaped keeps = absurd (true≢false (sym tells))
+stage-slackless m before g old new trie taken now j k (planned shares) steps.Ready at is a tells shaped keeps = absurd (true≢false (sym tells))
+stage-slackless m before g old new trie taken now j k (filling shares numbers filled) stepped at is a tells shaped keeps = absurd (filled_tells stepped a.0 tells)
+  where
+    filled_tells : (s : Stepped) → FillsOne g old new j k shares numbers filled s → tells_no_slack s ≡ true → ⊥
+    filled_tells steps.More f h = true≢false (sym h)
+    filled_tells (steps.Planned wanted slack) f h = f
+    filled_tells (steps.Short short) f h = f
+    filled_tells steps.Ready f h = true≢false (sym h)
 
 -- ---- marks
 
--- with one more node marked, which waits, all that are marked wait
-one_more_waits : (m : Named) (image : Image) (marks : List Bool) (id : NodeId) (levels : ℕ) (es : Trie) → length marks ≡ most_nodes → levels ≤ 5 → is_node levels id ≡ true → waits m image (id, node_at m.manifest.trie id) ≡ true → AllByRecursion (IsListed levels m.manifest.trie) es
-    → AllByRecursion (λ e. IsTrue (is_marked marks e.0) → IsTrue (waits m image e)) es → AllByRecursion (λ e. IsTrue (is_marked (marked marks id) e.0) → IsTrue (waits m image e)) es
-one_more_waits m image marks id levels [] size few node wait listed all = tt
-one_more_waits m image marks id levels (e ∷ es) size few node wait listed all =
-    ((λ is. by_node (same_node id e.0) refl (sym (mark-one marks id e.0 size (node-of-five levels id few node) (node-of-five levels e.0 few listed.0.node)) ∙ is)), one_more_waits m image marks id levels es size few node wait listed.1 all.1)
+-- with one more node marked that passes a test, all that are marked pass it
+one-more : (passes : NodeId × Node → Type 0) (trie : Trie) (marks : List Bool) (id : NodeId) (levels : ℕ) (es : Trie) → length marks ≡ most_nodes → levels ≤ 5 → is_node levels id ≡ true → passes (id, node_at trie id) → AllByRecursion (IsListed levels trie) es
+    → AllByRecursion (λ e. IsTrue (is_marked marks e.0) → passes e) es → AllByRecursion (λ e. IsTrue (is_marked (marked marks id) e.0) → passes e) es
+one-more passes trie marks id levels [] size few node pass listed all = tt
+one-more passes trie marks id levels (e ∷ es) size few node pass listed all =
+    ((λ is. by_node (same_node id e.0) refl (sym (mark-one marks id e.0 size (node-of-five levels id few node) (node-of-five levels e.0 few listed.0.node)) ∙ is)), one-more passes trie marks id levels es size few node pass listed.1 all.1)
   where
-    by_node : (b : Bool) → same_node id e.0 ≡ b → (same_node id e.0 || is_marked marks e.0) ≡ true → waits m image e ≡ true
+    by_node : (b : Bool) → same_node id e.0 ≡ b → (same_node id e.0 || is_marked marks e.0) ≡ true → passes e
     by_node true same either =
         let at : id ≡ e.0 = same_node-same id e.0 same in
-        subst (λ n. waits m image (e.0, n) ≡ true) listed.0.there (subst (λ q. waits m image (q, node_at m.manifest.trie q) ≡ true) at wait)
+        subst (λ n. passes (e.0, n)) listed.0.there (subst (λ q. passes (q, node_at trie q)) at pass)
     by_node false same either = all.0 (sym (ap (λ b. b || is_marked marks e.0) same) ∙ either)
 
 -- A JOB GIVEN UP leaves what is true
@@ -197,7 +240,17 @@ given_up-true m before image levels j k v is same few t node size wait true_on =
 
     by_whole : (b : Bool) → is_whole m.manifest.trie k ≡ b → PassedOverWait m image (cond b (marked v.passed_over k.node) v.passed_over)
     by_whole false part = wait-same m before image v.passed_over m.manifest.trie same true_on.waiting
-    by_whole true whole = wait-same m before image (marked v.passed_over k.node) m.manifest.trie same (one_more_waits m before v.passed_over k.node levels m.manifest.trie size few node (wait whole) (all-listed levels 65536 m.manifest.trie t) true_on.waiting)
+    by_whole true whole = wait-same m before image (marked v.passed_over k.node) m.manifest.trie same (one-more (λ e. IsTrue (waits m before e)) m.manifest.trie v.passed_over k.node levels m.manifest.trie size few node (wait whole) (all-listed levels 65536 m.manifest.trie t) true_on.waiting)
+
+-- A JOB GIVEN UP whose pile has no slack leaves what is true
+given_up_slackless-true : (m : Named) (before image : Image) (levels : ℕ) (k : JobView) (v : WorkView) → SameExtents m.geometry before image (named m.manifest.trie) → levels ≤ 5 → IsTrie levels 65536 m.manifest.trie → is_node levels k.node ≡ true → length v.without_slack ≡ most_nodes
+    → is_slack m before (k.node, node_at m.manifest.trie k.node) ≡ false → IsTrueOn m before v → IsTrueOn m image (given_up_slackless k v)
+given_up_slackless-true m before image levels k v same few t node size none true_on = record {
+  job = λ q at. absurd (none-some q at);
+  waiting = wait-same m before image v.passed_over m.manifest.trie same true_on.waiting;
+  slackless = slackless-same m before image (marked v.without_slack k.node) m.manifest.trie same
+      (one-more (λ e. IsFalse (is_slack m before e)) m.manifest.trie v.without_slack k.node levels m.manifest.trie size few node none (all-listed levels 65536 m.manifest.trie t) true_on.slackless);
+}
 
 -- ---- after one step
 
@@ -232,24 +285,12 @@ step-node g old new trie taken now j k stepped a = (stage-same g old new trie ta
 pub step-whole : (g : Geometry) (old new : Option Image) (trie nodes : Trie) (taken now : List Bool) (j k : JobView) (stepped : Stepped) → Advances g old new trie taken now j k stepped → is_whole nodes k ≡ is_whole nodes j
 step-whole g old new trie nodes taken now j k stepped a = let s = stage-same g old new trie taken now j k j.stage stepped a in λ i. length (s.sources i) == length (node_at nodes (s.node i)).tables
 
--- which leaves the extents as they are
-stage-leaves : (g : Geometry) (old new : Option Image) (trie : Trie) (taken now : List Bool) (j k : JobView) (stage : Stage) (stepped : Stepped) → AdvancesFrom stage g old new trie taken now j k stepped → needs_more (free_count now) stepped ≡ true → now ≡ taken
-stage-leaves g old new trie taken now j k (scanning n kept loose) stepped a more = a.1
-stage-leaves g old new trie taken now j k (planned shares) steps.More a more = absurd (true≢false (sym more))
-stage-leaves g old new trie taken now j k (planned shares) (steps.Planned wanted slack) a more = absurd a
-stage-leaves g old new trie taken now j k (planned shares) (steps.Short short) a more = a.4
-stage-leaves g old new trie taken now j k (planned shares) steps.Ready a more = absurd (true≢false (sym more))
-stage-leaves g old new trie taken now j k (filling shares numbers filled) stepped a more = a.1
-
-pub step-leaves : (g : Geometry) (old new : Option Image) (trie : Trie) (taken now : List Bool) (j k : JobView) (stepped : Stepped) → Advances g old new trie taken now j k stepped → needs_more (free_count now) stepped ≡ true → now ≡ taken
-step-leaves g old new trie taken now j k stepped a more = stage-leaves g old new trie taken now j k j.stage stepped a more
-
 -- WHERE A STEP TELLS that a job with its node's whole pile needs more than is free, the node waits
 pub step-waits : (m : Named) (before : Image) (g : Geometry) (old new : Option Image) (trie : Trie) (taken now : List Bool) (j k : JobView) (v : WorkView) (stepped : Stepped) → m.manifest.trie ≡ trie → v.job ≡ Some j → Advances g old new trie taken now j k stepped → needs_more (free_count taken) stepped ≡ true
     → AreTaken m.manifest.header.extents (named trie ++ reserved_by v) taken → IsShaped m.geometry.levels m.manifest.trie j → KeepsJob m before j → is_whole m.manifest.trie k ≡ true → waits m before (k.node, node_at m.manifest.trie k.node) ≡ true
 step-waits m before g old new trie taken now j k v stepped at is a more are shaped keeps whole =
     let same = stage-same g old new trie taken now j k j.stage stepped a in
-    let bare : reserved_by v ≡ [] = of_job v j is ∙ stage-bare g old new trie taken now j k j.stage stepped a more in
+    let bare : reserved_by v ≡ [] = of_job v j is ∙ (stage-bare g old new trie taken now j k j.stage stepped (free_count taken) a (or_right (tells_no_slack stepped) _ more)).none in
     let used : named trie ++ reserved_by v ≡ named m.manifest.trie = ap (λ xs. named trie ++ xs) bare ∙ append-nil (named trie) ∙ ap named (sym at) in
     let free = free-unnamed m taken (subst (λ xs. AreTaken m.manifest.header.extents xs taken) used are) in
     let pile : length j.sources ≡ length (node_at m.manifest.trie j.node).tables = eqb-true (length j.sources) (length (node_at m.manifest.trie j.node).tables) (sym (step-whole g old new trie m.manifest.trie taken now j k stepped a) ∙ whole) in
@@ -285,3 +326,103 @@ stage-in_use n g old new trie taken now j k (filling shares numbers filled) step
 
 pub step-in_use : (n : ℕ) (g : Geometry) (old new : Option Image) (trie : Trie) (taken now : List Bool) (j k : JobView) (v : WorkView) (stepped : Stepped) → v.job ≡ Some j → Advances g old new trie taken now j k stepped → AreTaken n (named trie ++ reserved_by v) taken → AreTaken n (named trie ++ taken_in k.stage) now
 step-in_use n g old new trie taken now j k v stepped is a are = stage-in_use n g old new trie taken now j k j.stage stepped refl a (subst (λ xs. AreTaken n (named trie ++ xs) taken) (of_job v j is) are)
+
+-- ---- what is left once the step was judged
+
+-- as many extents are free before as after a step that tells what its job needs
+stage-needs : (g : Geometry) (old new : Option Image) (trie : Trie) (taken now : List Bool) (j k : JobView) (stage : Stage) (stepped : Stepped) → AdvancesFrom stage g old new trie taken now j k stepped → needs_more (free_count now) stepped ≡ needs_more (free_count taken) stepped
+stage-needs g old new trie taken now j k (scanning n kept loose) stepped a = ap (λ flags. needs_more (free_count flags) stepped) a.1
+stage-needs g old new trie taken now j k (planned shares) steps.More a = refl
+stage-needs g old new trie taken now j k (planned shares) (steps.Planned wanted slack) a = absurd a
+stage-needs g old new trie taken now j k (planned shares) (steps.Short short) a = ap (λ flags. needs_more (free_count flags) (steps.Short short)) a.4
+stage-needs g old new trie taken now j k (planned shares) steps.Ready a = refl
+stage-needs g old new trie taken now j k (filling shares numbers filled) stepped a = ap (λ flags. needs_more (free_count flags) stepped) a.1
+
+-- THE WORK IS JUDGED by the extents that were free before the step
+pub judged-is : (g : Geometry) (old new : Option Image) (trie : Trie) (taken now : List Bool) (j k : JobView) (v : WorkView) (stepped : Stepped) → Advances g old new trie taken now j k stepped → after_step g.levels trie (free_count now) stepped k v ≡ after_step g.levels trie (free_count taken) stepped k v
+judged-is g old new trie taken now j k v stepped a = ap (λ b. cond (is_in_vain g.levels trie k stepped) (given_up_slackless k v) (cond b (given_up trie k v) (record v { job = Some k }))) (stage-needs g old new trie taken now j k j.stage stepped a)
+
+-- the three ways in which a step leaves the work
+by-judgement : (P : WorkView → Type 0) (levels : ℕ) (trie : Trie) (free : ℕ) (stepped : Stepped) (k : JobView) (v : WorkView) → (is_in_vain levels trie k stepped ≡ true → P (given_up_slackless k v)) → (needs_more free stepped ≡ true → P (given_up trie k v)) → P (record v { job = Some k }) → P (after_step levels trie free stepped k v)
+by-judgement P levels trie free stepped k v vain needs on = by_vain (is_in_vain levels trie k stepped) refl
+  where
+    by_needs : (b : Bool) → needs_more free stepped ≡ b → P (cond b (given_up trie k v) (record v { job = Some k }))
+    by_needs true is = needs is
+    by_needs false is = on
+
+    by_vain : (b : Bool) → is_in_vain levels trie k stepped ≡ b → P (cond b (given_up_slackless k v) (cond (needs_more free stepped) (given_up trie k v) (record v { job = Some k })))
+    by_vain true is = vain is
+    by_vain false is = by_needs (needs_more free stepped) refl
+
+-- WHAT SUITS suits after the step
+pub judged-suits : (g : Geometry) (old new : Option Image) (trie : Trie) (taken now : List Bool) (j k : JobView) (v : WorkView) (stepped : Stepped) → v.job ≡ Some j → Advances g old new trie taken now j k stepped → GoesWith g.levels trie now k → SuitsTrie g.levels trie taken v
+    → SuitsTrie g.levels trie now (after_step g.levels trie (free_count taken) stepped k v)
+judged-suits g old new trie taken now j k v stepped is a goes suits =
+    by-judgement (SuitsTrie g.levels trie now) g.levels trie (free_count taken) stepped k v
+    (λ vain. record { job = λ q none. absurd (none-some q none); candidate = λ q none. absurd (none-some q none); passed_over = suits.passed_over; without_slack = length-set v.without_slack (place_of k.node) true ∙ suits.without_slack })
+    (λ needs. record { job = λ q none. absurd (none-some q none); candidate = λ q none. absurd (none-some q none); passed_over = passed (is_whole trie k); without_slack = suits.without_slack })
+    (record {
+      job = λ q at. subst (GoesWith g.levels trie now) (same_job at) goes;
+      candidate = λ q at. subst (IsCandidate g.levels trie v.passed_over v.without_slack) (same_job at) candidate;
+      passed_over = suits.passed_over;
+      without_slack = suits.without_slack;
+    })
+  where
+    passed : (b : Bool) → length (cond b (marked v.passed_over k.node) v.passed_over) ≡ most_nodes
+    passed true = length-set v.passed_over (place_of k.node) true ∙ suits.passed_over
+    passed false = suits.passed_over
+
+    same_job : {a b : JobView} → Some a ≡ Some b → a ≡ b
+    same_job e = cc
+
+    node : k.node ≡ j.node
+    node = step-node g old new trie taken now j k stepped a
+
+    candidate : IsCandidate g.levels trie v.passed_over v.without_slack k
+    candidate = record {
+      begins = ap (may_begin g.levels trie v.without_slack) node ∙ (suits.candidate j is).begins;
+      unmarked = ap (is_marked v.passed_over) node ∙ (suits.candidate j is).unmarked;
+    }
+
+-- THE EXTENTS THAT ARE TAKEN are those that the trie names and the job has reserved
+pub judged-in_use : (n : ℕ) (g : Geometry) (old new : Option Image) (trie : Trie) (taken now : List Bool) (j k : JobView) (v : WorkView) (stepped : Stepped) → v.job ≡ Some j → Advances g old new trie taken now j k stepped → AreTaken n (named trie ++ reserved_by v) taken
+    → AreTaken n (named trie ++ reserved_by (after_step g.levels trie (free_count taken) stepped k v)) now
+judged-in_use n g old new trie taken now j k v stepped is a are =
+    by-judgement (λ w. AreTaken n (named trie ++ reserved_by w) now) g.levels trie (free_count taken) stepped k v
+    (λ vain. given (ap (λ b. b || needs_more (free_count taken) stepped) (and_parts (tells_no_slack stepped) _ vain).0))
+    (λ needs. given (or_right (tells_no_slack stepped) _ needs)) (step-in_use n g old new trie taken now j k v stepped is a are)
+  where
+    given : (tells_no_slack stepped || needs_more (free_count taken) stepped) ≡ true → AreTaken n (named trie ++ []) now
+    given gives =
+        let bare = stage-bare g old new trie taken now j k j.stage stepped (free_count taken) a gives in
+        subst (AreTaken n (named trie ++ [])) (sym bare.left) (subst (λ xs. AreTaken n (named trie ++ xs) taken) (of_job v j is ∙ bare.none) are)
+
+-- WHAT IS TRUE stays so
+pub judged-true : (m : Named) (before image : Image) (g : Geometry) (old new : Option Image) (trie : Trie) (taken now : List Bool) (j k : JobView) (v : WorkView) (stepped : Stepped) → m.geometry ≡ g → m.manifest.trie ≡ trie → g.levels ≤ 5 → IsTrie g.levels 65536 trie → v.job ≡ Some j → Advances g old new trie taken now j k stepped
+    → SuitsTrie g.levels trie taken v → AreTaken m.manifest.header.extents (named trie ++ reserved_by v) taken → old ≡ Some before → new ≡ Some image → ShowsSameOutside (InExtents g (next_extents j.stage)) old new → (KeepsJob m before j → KeepsJob m image k) → IsTrueOn m before v
+    → IsTrueOn m image (after_step g.levels trie (free_count taken) stepped k v)
+judged-true m before image g old new trie taken now j k v stepped geometry at few t is a suits are was shown others keeps true_on =
+    by-judgement (IsTrueOn m image) g.levels trie (free_count taken) stepped k v
+    (λ vain. given_up_slackless-true m before image g.levels k v same few t_now node suits.without_slack
+    (ap (λ id. is_slack m before (id, node_at m.manifest.trie id)) names ∙ stage-slackless m before g old new trie taken now j k j.stage stepped at refl a (and_parts (tells_no_slack stepped) _ vain).0 shaped (true_on.job j is)) true_on)
+    (λ needs. subst (λ nodes. IsTrueOn m image (given_up nodes k v)) at
+    (given_up-true m before image g.levels j k v is same few t_now node suits.passed_over (λ whole. step-waits m before g old new trie taken now j k v stepped at is a needs are shaped (true_on.job j is) whole) true_on))
+    (step-true m before image j k v is same keeps true_on)
+  where
+    goes : GoesWith g.levels m.manifest.trie taken j
+    goes = subst (λ nodes. GoesWith g.levels nodes taken j) (sym at) (suits.job j is)
+
+    shaped : IsShaped m.geometry.levels m.manifest.trie j
+    shaped = subst (λ (h : Geometry). IsShaped h.levels m.manifest.trie j) (sym geometry) goes.shaped
+
+    t_now : IsTrie g.levels 65536 m.manifest.trie
+    t_now = subst (IsTrie g.levels 65536) (sym at) t
+
+    names : k.node ≡ j.node
+    names = step-node g old new trie taken now j k stepped a
+
+    node : is_node g.levels k.node ≡ true
+    node = ap (is_node g.levels) names ∙ job-node g.levels 65536 m.manifest.trie j t_now goes.shaped
+
+    same : SameExtents m.geometry before image (named m.manifest.trie)
+    same = named-same m before image old new g.levels taken j was shown (subst (λ (h : Geometry). ShowsSameOutside (InExtents h (next_extents j.stage)) old new) (sym geometry) others) goes

@@ -27,8 +27,12 @@ job_steps_left (Some j) = steps_left (length j.sources) j.stage
 abbrev pub nodes_left : Trie → WorkView → ℕ
 nodes_left trie w = 4 * count_by not w.passed_over + turns_left trie w.job
 
--- The number whose digits are those of the trie, and behind them how many nodes are not passed over, and how many
--- steps the job in flight has left.
+-- how many nodes are not known to have no slack
+abbrev pub slack_left : WorkView → ℕ
+slack_left w = count_by not w.without_slack
+
+-- The number whose digits are those of the trie, and behind them how many nodes may have slack, how many are not passed
+-- over, and how many steps the job in flight has left.
 abbrev pub work_left : ℕ → Trie → WorkView → ℕ
-work_left levels trie w =
-    number_of_digits (trie_digits levels trie ++ nodes_left trie w ∷ job_steps_left w.job ∷ [])
+work_left levels trie w = number_of_digits
+    (trie_digits levels trie ++ slack_left w ∷ nodes_left trie w ∷ job_steps_left w.job ∷ [])

@@ -1,9 +1,10 @@
 -- The work of a store between its calls: the job in flight, and what is remembered of nodes.
-use Rattle.std.specs.Prelude.{◌≡◌, ℕ, Bool, false, List, [], length, Option, Some, None, IsTrue}
+use Rattle.std.specs.Prelude.{◌≡◌, ℕ, Bool, false, not, ◌&&◌, ◌||◌, List, [], length, Option, Some, None, IsTrue}
 use Rattle.std.specs.Option.{ForSome}
 use Rattle.lt_terms.specs.Bytes.{Image}
 use Rattle.lt_format.specs.Snapshot.{Named}
-use Rattle.lt_format.specs.Trie.{Trie, node_at}
+use Rattle.lt_format.specs.declared.node_id.NodeId.{NodeId}
+use Rattle.lt_format.specs.Trie.{Trie, is_last_level, node_at}
 use Rattle.lt_image.specs.Needs.{is_full}
 use Rattle.lt_pace.specs.Candidates.{AreSlackless, PassedOverWait}
 use Rattle.lt_pace.specs.Marks.{is_marked, most_nodes, no_marks}
@@ -30,16 +31,21 @@ reserved_for (Some j) = taken_in j.stage
 abbrev pub reserved_by : WorkView → List ℕ
 reserved_by w = reserved_for w.job
 
--- a job's node is full, or due at the last level, and it is not passed over
-pub record IsCandidate (levels : ℕ) (trie : Trie) (passed_over : List Bool) (j : JobView) : Type 0 where
-  pub full : IsTrue (is_full levels (j.node, node_at trie j.node))
+-- a pile is full, or one of the last level that is not known to have no slack
+abbrev pub may_begin : ℕ → Trie → List Bool → NodeId → Bool
+may_begin levels trie without_slack id =
+    is_full levels (id, node_at trie id) || (is_last_level levels id && not (is_marked without_slack id))
+
+-- a job may have begun at its node's pile, and the node is not passed over
+pub record IsCandidate (levels : ℕ) (trie : Trie) (passed_over without_slack : List Bool) (j : JobView) : Type 0 where
+  pub begins : IsTrue (may_begin levels trie without_slack j.node)
   pub unmarked : is_marked passed_over j.node ≡ false
 
 -- Whatever a device tells, the job in flight goes with the trie and with the extents that are taken, its node is a
 -- candidate, and there is a mark for each node.
 pub record SuitsTrie (levels : ℕ) (trie : Trie) (taken : List Bool) (w : WorkView) : Type 0 where
   pub job : ForSome w.job (GoesWith levels trie taken)
-  pub candidate : ForSome w.job (IsCandidate levels trie w.passed_over)
+  pub candidate : ForSome w.job (IsCandidate levels trie w.passed_over w.without_slack)
   pub passed_over : length w.passed_over ≡ most_nodes
   pub without_slack : length w.without_slack ≡ most_nodes
 

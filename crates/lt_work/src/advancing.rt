@@ -8,14 +8,14 @@ ghost use Rattle.lt_device.specs.Calls.{ReadsAndWrites};
 ghost use Rattle.lt_format.specs.Layout.{blocks_needed};
 ghost use Rattle.lt_format.specs.Snapshot.{Named};
 ghost use Rattle.lt_format.specs.Trie.{named, node_at};
-ghost use Rattle.lt_pace.specs.Candidates.{next_full};
+ghost use Rattle.lt_pace.specs.Candidates.{name_of};
 ghost use Rattle.lt_compact.specs.Extents.{AllTaken};
 ghost use Rattle.lt_compact.specs.Filling.{FillsWithin};
 ghost use Rattle.lt_compact.specs.Jobs.{begun};
 ghost use Rattle.lt_compact.specs.Steps.{InExtents};
 ghost use Rattle.std.specs.Option.{ForSome};
-ghost use Rattle.lt_work.specs.Advancing.{Begins, IsDamagedSource, Works, given_up, needs_more};
-ghost use Rattle.lt_work.specs.Advancing.{will_step};
+ghost use Rattle.lt_work.specs.Advancing.{Begins, IsDamagedSource, Works, after_step, needs_more};
+ghost use Rattle.lt_work.specs.Advancing.{next_wanted, tells_no_slack, will_step};
 ghost use Rattle.lt_work.specs.Work.{IsTrueOn, SuitsTrie, reserved_by};
 
 use crate::work::Work;
@@ -24,14 +24,23 @@ use lt_compact::{Job, JobFault, Stepped};
 use lt_device::Device;
 use lt_format::{Geometry, NodeId};
 use lt_node::Trie;
-use lt_pace::first_full;
+use lt_pace::{first_full, first_slack, is_full_at};
 use lt_page::NoMemory;
 use std::alloc::Global;
+
+/// Which piles a job may begin at.
+#[derive(Clone, Copy, Debug, PartialEq, Eq)]
+pub enum Wanted {
+    /// Full ones.
+    Full,
+    /// Full ones, and where none is left those of the last level that may have slack.
+    Slack,
+}
 
 /// What a call of work did.
 #[derive(Clone, Copy, Debug, PartialEq, Eq)]
 pub enum Advanced {
-    /// No job is in flight, and no full pile is left that is not passed over.
+    /// No job is in flight, and no pile is left that one is wanted at.
     Idle,
     /// A job began, or made a step, or was given up.
     More,
@@ -40,9 +49,11 @@ pub enum Advanced {
 }
 
 impl Work {
-    /// Begins a job at the first full pile that is not passed over, or makes one step of the job in flight. A
-    /// job that needs more extents than are free is given up, and where its tables are its node's whole pile
-    /// the node is passed over. It reads at most 64 blocks.
+    /// Makes one step of the job in flight, or begins one at the next pile that is wanted: the first full one that
+    /// is not passed over; with `Slack`, where none is left, the first last-level one that is neither passed over
+    /// nor known to have no slack. A job that needs more extents than are free is given up, and where its tables
+    /// are its node's whole pile the node is passed over. A job at a pile that is not full is given up where its
+    /// plan tells no slack, which is remembered. It reads at most 64 blocks.
     pub fn advance<D: Device>(
         &mut self,
         alloc: Global,
@@ -50,6 +61,7 @@ impl Work {
         geometry: &Geometry,
         trie: &Trie,
         extents: &mut Extents,
+        wanted: Wanted,
     ) -> Result<Advanced, JobFault>
         requires levels { trie.now.levels ≡ geometry.now.levels }
         requires suits { SuitsTrie geometry.now.levels trie.now.nodes extents.old self.old }
@@ -57,7 +69,7 @@ impl Work {
         requires within { blocks_needed geometry.now (length extents.old) ≤ D.blocks device.old }
 
         // What it answers, and what it leaves. After an `Err` neither work nor extents have changed.
-        ensures works { IfOk result (Works geometry.now (D.state device.old).shown
+        ensures works { IfOk result (Works wanted geometry.now (D.state device.old).shown
             (D.state device.new).shown trie.now.nodes extents.old extents.new self.old self.new) }
         ensures unchanged { OnErr result (self.new ≡ self.old) }
         ensures extents { OnErr result (extents.new ≡ extents.old) }
@@ -83,19 +95,19 @@ impl Work {
             device.old device.new }
     {
         match &self.job {
-            None => Ok(self.begin(alloc, trie)?),
+            None => Ok(self.begin(alloc, trie, wanted)?),
             Some(job) if job.change().is_some() => Ok(Advanced::Ready),
             Some(_) => self.step_on(alloc, device, geometry, trie, extents),
         }
     }
 
-    /// Begins a job at the first full pile that is not passed over.
-    fn begin(&mut self, alloc: Global, trie: &Trie) -> Result<Advanced, NoMemory>
+    /// Begins a job at the next pile that is wanted.
+    fn begin(&mut self, alloc: Global, trie: &Trie, wanted: Wanted) -> Result<Advanced, NoMemory>
         requires { self.old.job ≡ None }
         ensures idle { IfOk result (λ answer. answer ≡ Advanced.Idle
-            → (next_full trie.now.levels trie.now.nodes self.old.passed_over ≡ None) × (self.new ≡ self.old)) }
+            → (next_wanted wanted trie.now.levels trie.now.nodes self.old ≡ None) × (self.new ≡ self.old)) }
         ensures more { IfOk result (λ answer. answer ≡ Advanced.More
-            → Begins trie.now.levels trie.now.nodes self.old self.new) }
+            → Begins wanted trie.now.levels trie.now.nodes self.old self.new) }
         ensures either { IfOk result (λ answer. answer ≡ Advanced.Ready → ⊥) }
         ensures unchanged { OnErr result (self.new ≡ self.old) }
         ensures suits { (taken : List Bool) → AllTaken taken (named trie.now.nodes)
@@ -104,11 +116,22 @@ impl Work {
     {
         // A trie lists each node once.
         prove!(trie.levels() <= 5);
-        let Some(node) = first_full(trie, &self.passed_over) else {
+        let Some(node) = self.next(trie, wanted) else {
             return Ok(Advanced::Idle);
         };
         self.job = Some(job_at(alloc, trie, node)?);
         Ok(Advanced::More)
+    }
+
+    /// The next pile that a job is wanted at.
+    fn next(&self, trie: &Trie, wanted: Wanted) -> Option<NodeId>
+        ensures { result ≡ name_of (next_wanted wanted trie.now.levels trie.now.nodes self.now) }
+    {
+        match (first_full(trie, &self.passed_over), wanted) {
+            (Some(node), _) => Some(node),
+            (None, Wanted::Full) => None,
+            (None, Wanted::Slack) => first_slack(trie, &self.passed_over, &self.without_slack),
+        }
     }
 
     /// Makes one step of the job in flight, which is not ready.
@@ -124,7 +147,7 @@ impl Work {
         requires levels { trie.now.levels ≡ geometry.now.levels }
         requires suits { SuitsTrie geometry.now.levels trie.now.nodes extents.old self.old }
         requires within { blocks_needed geometry.now (length extents.old) ≤ D.blocks device.old }
-        ensures works { IfOk result (Works geometry.now (D.state device.old).shown
+        ensures works { (wanted : Wanted) → IfOk result (Works wanted geometry.now (D.state device.old).shown
             (D.state device.new).shown trie.now.nodes extents.old extents.new self.old self.new) }
         ensures unchanged { OnErr result (self.new ≡ self.old) }
         ensures extents { OnErr result (extents.new ≡ extents.old) }
@@ -149,20 +172,27 @@ impl Work {
             unreachable!()
         };
         let stepped = job.step(alloc, device, geometry, trie, extents)?;
-        if needs_more(extents.free(), stepped) {
-            self.give_up(trie);
-        }
+        self.judge(trie, extents.free(), stepped);
         Ok(Advanced::More)
     }
 
-    /// Gives up the job in flight, which has reserved nothing.
-    fn give_up(&mut self, trie: &Trie)
-        ensures { ForSome self.old.job (λ j. self.new ≡ given_up trie.now.nodes j self.old) }
+    /// Gives up the job in flight where the step that it made tells so.
+    fn judge(&mut self, trie: &Trie, free: u32, stepped: Stepped)
+        ensures { ForSome self.old.job (λ j.
+            self.new ≡ after_step trie.now.levels trie.now.nodes free stepped j self.old) }
     {
-        if let Some(job) = self.job.take() {
+        let Some(job) = &self.job else {
+            return;
+        };
+        let node = job.node();
+        if tells_no_slack(stepped) && !is_full_at(trie, node) {
+            self.without_slack.mark(node);
+            self.job = None;
+        } else if needs_more(free, stepped) {
             if job.is_whole(trie) {
-                self.passed_over.mark(job.node());
+                self.passed_over.mark(node);
             }
+            self.job = None;
         }
     }
 }
@@ -187,5 +217,15 @@ fn needs_more(free: u32, stepped: Stepped) -> bool
         Stepped::More | Stepped::Ready => false,
         Stepped::Planned { needed, .. } => free < needed,
         Stepped::Short(short) => free < short.needed,
+    }
+}
+
+/// Whether a step tells that its job's pile has no slack.
+fn tells_no_slack(stepped: Stepped) -> bool
+    ensures { result ≡ tells_no_slack stepped }
+{
+    match stepped {
+        Stepped::Planned { slack, .. } => !slack,
+        Stepped::More | Stepped::Short(_) | Stepped::Ready => false,
     }
 }

@@ -11,13 +11,15 @@ ghost use Rattle.lt_format.specs.Changes.{Change, after_change, flush, freed, ne
 ghost use Rattle.lt_format.specs.Snapshot.{Named, after_commit, may_commit};
 ghost use Rattle.lt_format.specs.Trie.{IsTrie, Trie, all_distinct, named};
 ghost use Rattle.lt_image.specs.After.{SameExtents};
-ghost use Rattle.lt_image.specs.Needs.{is_settled};
+ghost use Rattle.lt_image.specs.Needs.{is_exhausted, is_settled};
 ghost use Rattle.lt_image.specs.Standing.{Stands};
 ghost use Rattle.lt_image.specs.Versions.{Opened, open_image};
 ghost use Rattle.lt_pace.specs.Candidates.{next_full};
 ghost use Rattle.lt_compact.specs.Extents.{AllTaken};
 ghost use Rattle.lt_work.specs.declared.advancing.Advanced.TheVariants as answers;
-ghost use Rattle.lt_work.specs.Advancing.{Works};
+ghost use Rattle.lt_work.specs.declared.advancing.Wanted.{Wanted};
+ghost use Rattle.lt_work.specs.declared.advancing.Wanted.TheVariants as wants;
+ghost use Rattle.lt_work.specs.Advancing.{Works, next_wanted};
 ghost use Rattle.lt_work.specs.Committing.{CanCommit, committed_work};
 ghost use Rattle.lt_work.specs.Ending.{work_left};
 ghost use Rattle.lt_work.specs.Work.{IsTrueOn, SuitsTrie, WorkView, at_rest, flushed_work, reserved_by};
@@ -92,12 +94,14 @@ pub fn work_commits()
         → AreTaken m.manifest.header.extents (named (after_change m.manifest.trie change)) given }
 {}
 
-/// Work comes to an end: each call that answers `More` lowers how much is left, and so does each commit. Where
-/// none is left and what is remembered is true, the image is settled.
+/// Work comes to an end: each call that answers `More` lowers how much is left, whatever is wanted, and so does each
+/// commit. Where what is remembered is true, the image is settled with no full pile left to begin at, and exhausted
+/// with no pile left that may have slack either.
 pub fn work_ends()
-    ensures advances { (g : Geometry) (old new : Option Image) (trie : Trie) (taken now : List Bool)
-        (v w : WorkView) → g.levels ≤ 5 → IsTrie g.levels 65536 trie → length taken ≤ 65536
-        → SuitsTrie g.levels trie taken v → Works g old new trie taken now v w answers.More
+    ensures advances { (wanted : Wanted) (g : Geometry) (old new : Option Image) (trie : Trie)
+        (taken now : List Bool) (v w : WorkView) → g.levels ≤ 5 → IsTrie g.levels 65536 trie
+        → length taken ≤ 65536 → SuitsTrie g.levels trie taken v
+        → Works wanted g old new trie taken now v w answers.More
         → work_left g.levels trie w < work_left g.levels trie v }
     ensures commits { (m : Named) (taken : List Bool) (w : WorkView) (change : Change)
         → CanCommit m taken w change
@@ -107,4 +111,8 @@ pub fn work_ends()
         → IsTrie m.geometry.levels extents m.manifest.trie → IsTrueOn m image w
         → next_full m.geometry.levels m.manifest.trie w.passed_over ≡ None
         → IsTrue (is_settled m image) }
+    ensures exhausted { (m : Named) (image : Image) (extents : ℕ) (w : WorkView)
+        → IsTrie m.geometry.levels extents m.manifest.trie → IsTrueOn m image w
+        → next_wanted wants.Slack m.geometry.levels m.manifest.trie w ≡ None
+        → IsTrue (is_exhausted m image) }
 {}

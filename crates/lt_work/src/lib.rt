@@ -5,6 +5,6 @@ mod advancing;
 mod laws;
 mod work;
 
-pub use advancing::Advanced;
+pub use advancing::{Advanced, Wanted};
 pub use laws::{work_begins, work_commits, work_ends, work_outlasts};
 pub use work::Work;
