@@ -7,6 +7,7 @@ use Rattle.std.proofs.lemmas.List.Quantifiers.{all_pairs_push}
 use Rattle.std.proofs.lemmas.List.Sums.{sum_by_push, sum_by-set, count_by-le-length}
 use Rattle.std.proofs.lemmas.Bool.{cases_eq, cases_lt, eq-eqb, ne_eqb, le-leb, true≢false, and_parts, not-true}
 use Rattle.lt_terms.specs.Bytes.{is_in}
+use Rattle.lt_terms.proofs.AmongLaws.{in_at}
 use Rattle.lt_alloc.specs.Extents.{is_free, free_count, Reserves}
 use Rattle.lt_alloc.specs.Stack.{IsStack}
 
@@ -97,15 +98,6 @@ among_push n x (m ∷ numbers) = ap (λ b. (m == n) || b) (among_push n x number
     or_assoc true b c = refl
     or_assoc false b c = refl
 
-among_at : (numbers : List ℕ) (k d : ℕ) → k < length numbers → is_in (get_or numbers k d) numbers ≡ true
-among_at [] k d below = absurd (omega arith)
-among_at (m ∷ numbers) zero d below = ap (λ b. b || is_in m numbers) (eq-eqb m m refl)
-among_at (m ∷ numbers) (suc k) d below = ap (λ b. (m == get_or numbers k d) || b) (among_at numbers k d (omega arith)) ∙ or_true (m == get_or numbers k d)
-  where
-    or_true : (b : Bool) → (b || true) ≡ true
-    or_true true = refl
-    or_true false = refl
-
 pub Reserves-none : (old : List Bool) (before : List ℕ) → Reserves 0 old old before before
 Reserves-none old before = record {
   numbers = [];
@@ -132,7 +124,7 @@ Reserves-more count old was new before after more x r free new_is more_is =
       appended = more_is ∙ ap (λ xs. xs ++ x ∷ []) r.appended ∙ append_assoc before r.numbers (x ∷ []);
       len = length_push r.numbers x ∙ ap (λ k. k + 1) r.len;
       were_free = All-push (λ n. IsTrue (is_free old n)) r.numbers x r.were_free both.0;
-      differ = all_pairs_push ◌≢◌ r.numbers x r.differ (λ k d small same. true≢false (sym (among_at r.numbers k d small) ∙ ap (λ y. is_in y r.numbers) same ∙ fresh));
+      differ = all_pairs_push ◌≢◌ r.numbers x r.differ (λ k d small same. true≢false (sym (in_at r.numbers k d small) ∙ ap (λ y. is_in y r.numbers) same ∙ fresh));
       same_extents = ap length new_is ∙ length-set was x true ∙ r.same_extents;
       others_stay = λ n. ap (λ ts. is_free ts n) new_is ∙ ⊎_elim
           (λ (same : x ≡ n). subst (λ k. is_free (set was x true) k ≡ (is_free old k && not (is_in k (r.numbers ++ x ∷ [])))) same

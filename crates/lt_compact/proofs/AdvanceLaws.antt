@@ -4,6 +4,7 @@ use Rattle.std.specs.Prelude.{◌==◌, ◌&&◌, nat_le, IfOk, OnErr}
 use Rattle.std.proofs.lemmas.Bool.{and_parts, and_from, eq-eqb, eqb-true, le-leb, leb-true, ltb-false, ltb-true}
 use Rattle.lt_terms.specs.Bytes.{Image}
 use Rattle.lt_terms.specs.Items.{Item}
+use Rattle.lt_terms.proofs.AmongLaws.{in_take, in_drop}
 use Rattle.lt_device.specs.State.{SameOutside}
 use Rattle.lt_device.specs.Moments.{ShowsSameOutside}
 use Rattle.lt_device.proofs.Steps.{same_some}
@@ -20,7 +21,7 @@ use Rattle.lt_compact.specs.declared.step.Stepped.TheVariants as steps
 use Rattle.lt_compact.specs.Plans.{all_contents, are_shared, extents_for, group}
 use Rattle.lt_compact.specs.Jobs.{JobView, Stage, scanning, planned, filling, taken_in, is_shaped_stage, IsShaped, KeepsJob, KeepsStage}
 use Rattle.lt_compact.specs.Steps.{Advances, AdvancesFrom, Fills, InExtents, next_extents}
-use Rattle.lt_compact.proofs.ExtentLaws.{apart-joined, distinct_behind, in_dropped, in_taken, not_in_part, others-same}
+use Rattle.lt_compact.proofs.ExtentLaws.{apart-joined, distinct_behind, not_in_part, others-same}
 use Rattle.lt_compact.proofs.FillLaws.{filled-keeps, front_same}
 use Rattle.lt_compact.proofs.LocalLaws.{all_hold_same, behind_shared, same-keeps, sources_named}
 use Rattle.lt_compact.proofs.PlanLaws.{length-all_contents}
@@ -113,7 +114,7 @@ filled-same : (g : Geometry) (before image : Image) (trie : Trie) (j : JobView) 
 filled-same g before image trie j numbers filled s apart same = record {
   named_same = names;
   sources_same = sources_named (SameExtent g before image) g.levels trie j s names;
-  front = others-same g next before image (take filled numbers) same (λ x there. not_in_part x next (drop filled numbers) (in_taken x 1 (drop filled numbers))
+  front = others-same g next before image (take filled numbers) same (λ x there. not_in_part x next (drop filled numbers) (in_take x 1 (drop filled numbers))
       (apart-joined (take filled numbers) (drop filled numbers) (subst (λ xs. all_distinct xs ≡ true) (sym (take-append-drop filled numbers)) (distinct_behind (named trie) numbers apart)) x there));
 }
   where
@@ -121,7 +122,7 @@ filled-same g before image trie j numbers filled s apart same = record {
     next = take 1 (drop filled numbers)
 
     names : SameExtents g before image (named trie)
-    names = others-same g next before image (named trie) same (λ x there. not_in_part x next numbers (λ t. in_dropped x filled numbers (in_taken x 1 (drop filled numbers) t)) (apart-joined (named trie) numbers apart x there))
+    names = others-same g next before image (named trie) same (λ x there. not_in_part x next numbers (λ t. in_drop x filled numbers (in_take x 1 (drop filled numbers) t)) (apart-joined (named trie) numbers apart x there))
 
 -- no extent more is filled
 unfilled : (m : Named) (before image : Image) (j : JobView) (shares : List Share) (numbers : List ℕ) (filled : ℕ) → are_shared m.geometry.levels m.manifest.trie j.node shares ≡ true → SameFilled m.geometry before image m.manifest.trie j.sources numbers filled

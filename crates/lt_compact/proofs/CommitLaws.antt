@@ -26,6 +26,7 @@ use Rattle.lt_image.specs.Standing.{filter_blocks, Stands}
 use Rattle.lt_image.proofs.JobCountLaws.{deal-committed, rewrite-committed}
 use Rattle.lt_image.proofs.MapLaws.{named-tables}
 use Rattle.lt_image.proofs.ShareLaws.{shares-behind}
+use Rattle.lt_image.proofs.AfterLaws.{same_filters}
 use Rattle.lt_compact.specs.Plans.{Holds, all_contents, all_given, are_shared, change_for, extents_for, rewriting, children_shared, is_own}
 use Rattle.lt_compact.specs.Jobs.{JobView, Stage, scanning, planned, filling, taken_in, is_filled, change_in, change_of, is_shaped_stage, IsShaped, KeepsJob, KeepsStage}
 use Rattle.lt_compact.proofs.PlanLaws.{all-given, given_extents, length-all_contents, own_first, deal-fits, rewrite-fits, rewrite-given, IsFitting}
@@ -46,14 +47,10 @@ placed_in_same g old new [] (p ∷ parts) same zip = zip
 placed_in_same g old new (x ∷ xs) [] same zip = absurd zip
 placed_in_same g old new (x ∷ xs) (p ∷ parts) same zip = (placed_same g old new x p same.0 zip.0, placed_in_same g old new xs parts same.1 zip.1)
 
-pub filters_same : (g : Geometry) (old new : Image) (xs : List ℕ) → SameExtents g old new xs → filter_blocks g new xs ≡ filter_blocks g old xs
-filters_same g old new [] same = refl
-filters_same g old new (x ∷ xs) same = let h : extent_in g new x 64 ≡ extent_in g old x 64 = same.0 64 (omega arith) in λ i. h i ∷ filters_same g old new xs same.1 i
-
 group_same : (g : Geometry) (old new : Image) (pile : List ℕ) (p : ℕ × ℕ) → SameExtents g old new pile → SameExtent g old new p.1 → IsGroupAt g old pile p → IsGroupAt g new pile p
 group_same g old new pile p same_pile same is =
     let part : List ℕ = slice_range pile (64 * p.0) (64 * p.0 + 64) in
-    let filters : filter_blocks g new part ≡ filter_blocks g old part = filters_same g old new part (all_take (SameExtent g old new) (64 * p.0 + 64 - 64 * p.0) (drop (64 * p.0) pile) (all_drop (SameExtent g old new) (64 * p.0) pile same_pile)) in
+    let filters : filter_blocks g new part ≡ filter_blocks g old part = same_filters g old new part (all_take (SameExtent g old new) (64 * p.0 + 64 - 64 * p.0) (drop (64 * p.0) pile) (all_drop (SameExtent g old new) (64 * p.0) pile same_pile)) in
     record { columns = λ c small. same c (omega arith) ∙ is.columns c small ∙ ap (λ fs. group_block fs c) (sym filters) }
 
 groups_same : (g : Geometry) (old new : Image) (pile xs : List ℕ) (j : ℕ) → SameExtents g old new pile → SameExtents g old new xs → AllByRecursion (IsGroupAt g old pile) (enumerate_from j xs) → AllByRecursion (IsGroupAt g new pile) (enumerate_from j xs)

@@ -4,6 +4,7 @@ use Rattle.std.specs.Prelude.{◌==◌}
 use Rattle.std.specs.List.{AllByRecursion}
 use Rattle.std.proofs.lemmas.Bool.{and_parts, eq-eqb, eqb-true, not-true, or_left, or_right, true≢false}
 use Rattle.lt_terms.specs.Bytes.{Image, is_in}
+use Rattle.lt_terms.proofs.AmongLaws.{in_right}
 use Rattle.lt_device.specs.State.{SameOutside}
 use Rattle.lt_format.specs.declared.geometry.Geometry.{Geometry}
 use Rattle.lt_format.specs.Layout.{extent_block}
@@ -26,24 +27,6 @@ pub all_those : (P : ℕ → Type 0) (xs : List ℕ) → ((x : ℕ) → is_in x 
 all_those P [] each = tt
 all_those P (y ∷ xs) each = (each y (or_left (y == y) (is_in y xs) (eq-eqb y y refl)), all_those P xs (λ x there. each x (or_right (y == x) (is_in x xs) there)))
 
--- what stands at a place stands in the list
-pub in-at : (xs : List ℕ) (i d : ℕ) → i < length xs → is_in (get_or xs i d) xs ≡ true
-in-at [] i d below = absurd (omega arith)
-in-at (x ∷ xs) zero d below = or_left (x == x) (is_in x xs) (eq-eqb x x refl)
-in-at (x ∷ xs) (suc i) d below = or_right (x == get_or xs i d) (is_in (get_or xs i d) xs) (in-at xs i d (omega arith))
-
-pub in_front : (x : ℕ) (xs ys : List ℕ) → is_in x xs ≡ true → is_in x (xs ++ ys) ≡ true
-in_front x [] ys there = absurd (true≢false (sym there))
-in_front x (y ∷ xs) ys there = by_test (y == x) there (in_front x xs ys)
-  where
-    by_test : (b : Bool) → (b || is_in x xs) ≡ true → (is_in x xs ≡ true → is_in x (xs ++ ys) ≡ true) → (b || is_in x (xs ++ ys)) ≡ true
-    by_test true there later = refl
-    by_test false there later = later there
-
-pub in_back : (x : ℕ) (xs ys : List ℕ) → is_in x ys ≡ true → is_in x (xs ++ ys) ≡ true
-in_back x [] ys there = there
-in_back x (y ∷ xs) ys there = or_right (y == x) (is_in x (xs ++ ys)) (in_back x xs ys there)
-
 -- in a list without repetition what stands in front stands nowhere behind
 pub apart-joined : (xs ys : List ℕ) → all_distinct (xs ++ ys) ≡ true → (x : ℕ) → is_in x xs ≡ true → is_in x ys ≡ false
 apart-joined [] ys distinct x there = absurd (true≢false (sym there))
@@ -53,7 +36,7 @@ apart-joined (y ∷ xs) ys distinct x there = by_test (y == x) refl there (apart
     none = not-true _ (and_parts (not (is_in y (xs ++ ys))) (all_distinct (xs ++ ys)) distinct).0
 
     absent : (b : Bool) → is_in y ys ≡ b → is_in y ys ≡ false
-    absent true is = absurd (true≢false (sym (in_back y xs ys is) ∙ none))
+    absent true is = absurd (true≢false (sym (in_right y xs ys is) ∙ none))
     absent false is = is
 
     by_test : (b : Bool) → (y == x) ≡ b → (b || is_in x xs) ≡ true → (is_in x xs ≡ true → is_in x ys ≡ false) → is_in x ys ≡ false
@@ -63,13 +46,6 @@ apart-joined (y ∷ xs) ys distinct x there = by_test (y == x) refl there (apart
 pub distinct_behind : (xs ys : List ℕ) → all_distinct (xs ++ ys) ≡ true → all_distinct ys ≡ true
 distinct_behind [] ys distinct = distinct
 distinct_behind (x ∷ xs) ys distinct = distinct_behind xs ys (and_parts (not (is_in x (xs ++ ys))) (all_distinct (xs ++ ys)) distinct).1
-
--- what stands in a part of a list stands in the list
-pub in_taken : (x k : ℕ) (xs : List ℕ) → is_in x (take k xs) ≡ true → is_in x xs ≡ true
-in_taken x k xs there = subst (λ ys. is_in x ys ≡ true) (take-append-drop k xs) (in_front x (take k xs) (drop k xs) there)
-
-pub in_dropped : (x k : ℕ) (xs : List ℕ) → is_in x (drop k xs) ≡ true → is_in x xs ≡ true
-in_dropped x k xs there = subst (λ ys. is_in x ys ≡ true) (take-append-drop k xs) (in_back x (take k xs) (drop k xs) there)
 
 -- and what is in none of the list is in no part of it
 pub not_in_part : (x : ℕ) (part whole : List ℕ) → (is_in x part ≡ true → is_in x whole ≡ true) → is_in x whole ≡ false → is_in x part ≡ false

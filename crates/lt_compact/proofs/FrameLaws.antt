@@ -8,12 +8,13 @@ use Rattle.lt_terms.specs.Hashes.{key_digit}
 use Rattle.lt_terms.specs.Items.{Item, is_valid}
 use Rattle.lt_tables.specs.Cut.{cut, pieces}
 use Rattle.lt_tables.specs.Table.{newest, with_digit}
+use Rattle.lt_tables.proofs.ListLaws.{filter_few}
+use Rattle.lt_tables.proofs.RankedLaws.{pieces-count}
 use Rattle.lt_format.specs.declared.node_id.NodeId.{NodeId}
 use Rattle.lt_format.specs.Trie.{Trie, node_at}
 use Rattle.lt_image.specs.Shares.{Share, child_share, deal_shares, has_tables}
 use Rattle.lt_compact.specs.Sharing.{AreFrames, FrameView, IsCut, all_framed, frame_of, framed}
-use Rattle.lt_compact.proofs.NeedLaws.{filter-few, filter-ranked, valid-filter}
-use Rattle.lt_compact.proofs.PieceLaws.{tables-counted}
+use Rattle.lt_compact.proofs.NeedLaws.{filter-ranked, valid-filter}
 
 -- ---- the frames of all children
 
@@ -31,7 +32,7 @@ frames-cut trie id items piles ranked valid few a zero = tt
 frames-cut trie id items piles ranked valid few a (suc n) =
     let test : Item → Bool = λ v. key_digit v.key id.level == a in
     let pile = piles (record { level = id.level + 1; number = 8 * id.number + a }) in
-    let fewer : length (filter test items) ≤ length items = filter-few test items in (
+    let fewer : length (filter test items) ≤ length items = filter_few test items in (
       record { ranked = filter-ranked test items ranked; valid = valid-filter test items valid; counts_are = refl; few = omega arith; pile = pile },
       frames-cut trie id items piles ranked valid few (a + 1) n,
     )
@@ -88,7 +89,7 @@ turn-parts wanted f after lists shares room turn (l ∷ ls) is frames made fits 
     let digit : f.digit ≡ turn = cc in
     let others : map (λ (g : FrameView). g.digit) after ≡ range_with_len (turn + 1) (length ls) = cc in
     let item : get_or lists f.digit [] ≡ l = ap (λ k. get_or lists k []) digit ∙ sym here in
-    let tables : length (cut l) ≡ length f.counts = ap (λ ns. length (pieces ns l)) (sym frames.cuts.0.counts_are) ∙ tables-counted f.counts l in
+    let tables : length (cut l) ≡ length f.counts = ap (λ ns. length (pieces ns l)) (sym frames.cuts.0.counts_are) ∙ pieces-count f.counts l in
     let unset : drop (turn + 1) (set lists f.digit []) ≡ ls = drop-set-lt (turn + 1) lists f.digit [] (omega arith) ∙ sym rest in
     record {
       within = omega arith;

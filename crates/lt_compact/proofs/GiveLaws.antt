@@ -3,7 +3,7 @@ use Rattle.std.proofs.Common.{◌≡◌, ◌≢◌, ℕ, ◌+◌, ◌<◌, refl,
 use Rattle.std.specs.Prelude.{◌==◌}
 use Rattle.std.proofs.Math.Bool.{or-false}
 use Rattle.std.proofs.Math.Seq.{drop-cons, drop-length}
-use Rattle.std.proofs.lemmas.Bool.{and_parts, cases_eq, eq-eqb, eqb-true, not-true, true≢false}
+use Rattle.std.proofs.lemmas.Bool.{and_parts, cases_eq, eq-eqb, eqb-true, not-true, true≢false, or_left, or_right}
 use Rattle.std.proofs.lemmas.List.{get_or-set_other, get_or-set_same, length-set}
 use Rattle.lt_terms.specs.Bytes.{is_in}
 use Rattle.lt_alloc.specs.Extents.{is_free}
@@ -22,13 +22,6 @@ pub record IsNext (old now : List Bool) (numbers : List ℕ) (i n : ℕ) : Type 
   pub rest : drop i numbers ≡ n ∷ drop (i + 1) numbers
   pub below : n < length now
   pub taken : is_free now n ≡ false
-
-or_left : (a b : Bool) → a ≡ true → (a || b) ≡ true
-or_left a b is = ap (λ c. c || b) is
-
-or_right : (a b : Bool) → b ≡ true → (a || b) ≡ true
-or_right true b is = refl
-or_right false b is = is
 
 pub next : (old now : List Bool) (numbers : List ℕ) (i n : ℕ) → i < length numbers → n ≡ get_or numbers i 0 → AreGiven old now numbers i → IsNext old now numbers i n
 next old now numbers i n small is given =

@@ -28,8 +28,9 @@ use Rattle.lt_image.proofs.KeptLaws.{pile_same}
 use Rattle.lt_image.proofs.MapLaws.{named-tables}
 use Rattle.lt_compact.specs.Plans.{Content, table, group, Holds, contents, all_contents, are_shared, children_shared, is_own, extents_for}
 use Rattle.lt_image.specs.Needs.{is_slack, node_items, waits}
+use Rattle.lt_image.proofs.AfterLaws.{same_filters}
 use Rattle.lt_compact.specs.Jobs.{is_loose, JobView, Stage, scanning, planned, filling, taken_in, is_shaped_stage, IsShaped, KeepsJob, KeepsStage}
-use Rattle.lt_compact.proofs.CommitLaws.{placed_same, filters_same}
+use Rattle.lt_compact.proofs.CommitLaws.{placed_same}
 use Rattle.lt_compact.proofs.PlanLaws.{own-one}
 
 -- ---- what extents hold
@@ -41,7 +42,7 @@ SameContent g old new (group tables) = SameExtents g old new tables
 
 holds_same : (g : Geometry) (old new : Image) (x : ℕ) (c : Content) → SameExtent g old new x → SameContent g old new c → Holds g old x c → Holds g new x c
 holds_same g old new x (table items) same c h = placed_same g old new x items same h
-holds_same g old new x (group tables) same c h = record { columns = λ k small. same k (omega arith) ∙ h.columns k small ∙ ap (λ fs. group_block fs k) (sym (filters_same g old new tables c)) }
+holds_same g old new x (group tables) same c h = record { columns = λ k small. same k (omega arith) ∙ h.columns k small ∙ ap (λ fs. group_block fs k) (sym (same_filters g old new tables c)) }
 
 pub all_hold_same : (g : Geometry) (old new : Image) (xs : List ℕ) (cs : List Content) → SameExtents g old new xs → AllByRecursion (SameContent g old new) cs → AllZip (Holds g old) xs cs → AllZip (Holds g new) xs cs
 all_hold_same g old new [] [] same c zip = zip

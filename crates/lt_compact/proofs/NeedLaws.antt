@@ -10,6 +10,7 @@ use Rattle.lt_tables.specs.Cut.{cut}
 use Rattle.lt_tables.specs.Table.{is_put, newest, with_digit, without_deletes}
 use Rattle.lt_tables.proofs.PartLaws.{ranked-filter}
 use Rattle.lt_tables.proofs.RankedLaws.{is_ranked, newest-ranked, ranked-newest}
+use Rattle.lt_tables.proofs.ListLaws.{filter_few}
 use Rattle.lt_format.specs.declared.node_id.NodeId.{NodeId}
 use Rattle.lt_format.specs.Trie.{IsTrie, Trie, is_last_level, is_node, is_shaped, node_at}
 use Rattle.lt_format.proofs.ShapeLaws.{node_at-shaped, shaped-inner, shaped-last}
@@ -37,14 +38,6 @@ valid-filter test (v ∷ items) h =
     by_test : (b : Bool) → IsTrue (list_all is_valid (v ∷ filter test items)) → IsTrue (list_all is_valid (filter test items)) → IsTrue (list_all is_valid (cond b (v ∷ filter test items) (filter test items)))
     by_test true with without = with
     by_test false with without = without
-
-pub filter-few : (test : Item → Bool) (items : List Item) → length (filter test items) ≤ length items
-filter-few test [] = omega arith
-filter-few test (v ∷ items) = by_test (test v) (filter test items) (filter-few test items)
-  where
-    by_test : (b : Bool) (xs : List Item) → length xs ≤ length items → length (cond b (v ∷ xs) xs) ≤ suc (length items)
-    by_test true xs h = omega arith
-    by_test false xs h = omega arith
 
 -- items that pass a test are in rank order, where all are
 pub filter-ranked : (test : Item → Bool) (items : List Item) → newest items ≡ items → newest (filter test items) ≡ filter test items
@@ -119,7 +112,7 @@ needs-few levels trie id items ranked valid few = by_last (is_last_level levels 
     own : extents_for levels (rewrite_share id items ∷ []) < 4294967296
     own =
         let s : Share = rewrite_share id items in
-        let parts : length (cut (without_deletes items)) ≤ length items = omega (arith, parts-few (without_deletes items) (valid-filter is_put items valid), filter-few is_put items) in
+        let parts : length (cut (without_deletes items)) ≤ length items = omega (arith, parts-few (without_deletes items) (valid-filter is_put items valid), filter_few is_put items) in
         let same : length s.parts ≡ length (cut (without_deletes items)) = ap (λ xs. length (cut (without_deletes xs))) ranked in
         omega (arith, sum_by-cons (share_extents levels) s [], share-few levels s, parts, same)
 

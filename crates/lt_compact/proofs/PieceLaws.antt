@@ -13,6 +13,7 @@ use Rattle.lt_tables.specs.Placement.{entry_of}
 use Rattle.lt_tables.specs.Table.{newest}
 use Rattle.lt_tables.proofs.CutLaws.{cut-joined, cut-tables, cut_counts-nil, cut_counts-some, table_count-within}
 use Rattle.lt_tables.proofs.RankedCutLaws.{cut-ranked}
+use Rattle.lt_tables.proofs.RankedLaws.{pieces-count}
 use Rattle.lt_htable.specs.Cutting.{IsPart}
 use Rattle.lt_format.specs.declared.node_id.NodeId.{NodeId}
 use Rattle.lt_format.specs.Trie.{groups_for, is_last_level}
@@ -20,10 +21,6 @@ use Rattle.lt_image.specs.Shares.{Share, new_groups}
 use Rattle.lt_compact.specs.Sharing.{IsCut}
 
 -- ---- the parts of a cut, by its counts
-
-pub tables-counted : (counts : List ℕ) (items : List Item) → length (pieces counts items) ≡ length counts
-tables-counted [] items = refl
-tables-counted (n ∷ ns) items = ap suc (tables-counted ns (drop n items))
 
 each-valid : (items : List Item) → IsTrue (list_all is_valid items) → AllByRecursion (λ (v : Item). IsTrue (is_valid v)) items
 each-valid [] all = tt
@@ -38,7 +35,7 @@ parts-few items valid = omega (arith, fewer-parts (cut items) (cut-tables items 
 
 pub tables-few : (items : List Item) (counts : List ℕ) → counts ≡ cut_counts (map entry_of items) → IsTrue (list_all is_valid items) → length counts ≤ length items
 tables-few items counts are valid =
-    let same : length (cut items) ≡ length counts = ap (λ ns. length (pieces ns items)) (sym are) ∙ tables-counted counts items in
+    let same : length (cut items) ≡ length counts = ap (λ ns. length (pieces ns items)) (sym are) ∙ pieces-count counts items in
     omega (arith, parts-few items valid, same)
 
 -- the first count is that of the first table
@@ -78,7 +75,7 @@ after-next items counts i count rest are at below is =
     let split : drop i counts ≡ get_or counts i 0 ∷ drop (suc i) counts = drop-cons counts i 0 below in
     let first : count ∷ drop (i + 1) counts ≡ cut_counts (map entry_of rest) = ap (λ n. n ∷ drop (i + 1) counts) is ∙ ap (λ k. get_or counts i 0 ∷ drop k counts) (add-one i) ∙ sym split ∙ at.counts_are in
     let next = first-of count (drop (i + 1) counts) rest first in
-    let within : i < length (pieces counts items) = subst (λ n. i < n) (sym (tables-counted counts items)) below in
+    let within : i < length (pieces counts items) = subst (λ n. i < n) (sym (pieces-count counts items)) below in
     let cut_is : cut rest ≡ take count rest ∷ cut (drop count rest) = ap (λ ns. pieces ns rest) (sym first) ∙ ap (λ ns. take count rest ∷ pieces ns (drop count rest)) next.others in
     let pieces_are : get_or (pieces counts items) i [] ∷ drop (suc i) (pieces counts items) ≡ take count rest ∷ cut (drop count rest) = sym (drop-cons (pieces counts items) i [] within) ∙ at.parts ∙ cut_is in
     let part : get_or (pieces counts items) i [] ≡ take count rest = cc in
@@ -97,7 +94,7 @@ at-of-all P (x ∷ xs) (suc i) d all below = at-of-all P xs i d all.1 (omega ari
 -- each of them is a table's
 pub part-at : (items : List Item) (counts : List ℕ) (i : ℕ) → counts ≡ cut_counts (map entry_of items) → newest items ≡ items → IsTrue (list_all is_valid items) → i < length counts → IsPart (get_or (pieces counts items) i [])
 part-at items counts i are ranked valid below =
-    let within : i < length (pieces counts items) = subst (λ n. i < n) (sym (tables-counted counts items)) below in
+    let within : i < length (pieces counts items) = subst (λ n. i < n) (sym (pieces-count counts items)) below in
     let places : AllByRecursion tables.IsTable (pieces counts items) = subst (λ ns. AllByRecursion tables.IsTable (pieces ns items)) (sym are) (cut-tables items (each-valid items valid)) in
     let ranks : AllByRecursion (λ (t : List Item). newest t ≡ t) (pieces counts items) = subst (λ ns. AllByRecursion (λ (t : List Item). newest t ≡ t) (pieces ns items)) (sym are) (recursion_from_All (λ (t : List Item). newest t ≡ t) (cut items) (cut-ranked items ranked)) in
     record { table = at-of-all tables.IsTable (pieces counts items) i [] places within; ranked = at-of-all (λ (t : List Item). newest t ≡ t) (pieces counts items) i [] ranks within }
@@ -121,7 +118,7 @@ shows node behind items counts s is kept =
       node_is = ap (λ (s : Share). s.node) (sym is);
       behind_is = ap (λ (s : Share). length s.behind) (sym is);
       parts_are = ap (λ (s : Share). s.parts) (sym is);
-      tables = ap (λ (s : Share). length s.parts) (sym is) ∙ tables-counted counts items;
+      tables = ap (λ (s : Share). length s.parts) (sym is) ∙ pieces-count counts items;
       few_tables = omega arith;
       few_behind = kept.pile;
     }

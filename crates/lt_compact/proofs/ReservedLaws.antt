@@ -3,6 +3,7 @@ use Rattle.std.proofs.Common.{◌≡◌, ℕ, refl, sym, ap, subst, ◌∙◌, L
 use Rattle.std.specs.Prelude.{◌==◌, IfOk, OnErr}
 use Rattle.std.proofs.lemmas.Bool.{and_from, and_parts, eq-eqb, not-true, or_left, or_right, true≢false}
 use Rattle.lt_terms.specs.Bytes.{Image, is_in}
+use Rattle.lt_terms.proofs.AmongLaws.{in_either, in_first}
 use Rattle.lt_alloc.specs.Extents.{Reserves}
 use Rattle.lt_format.specs.declared.geometry.Geometry.{Geometry}
 use Rattle.lt_format.specs.Trie.{Trie, all_distinct, named}
@@ -18,17 +19,6 @@ use Rattle.lt_compact.proofs.TakeLaws.{reserved-distinct, reserved-taken, was_fr
 
 -- ---- lists side by side
 
-in-either : (x : ℕ) (xs ys : List ℕ) → is_in x (xs ++ ys) ≡ true → (is_in x xs ≡ true) ⊎ (is_in x ys ≡ true)
-in-either x [] ys there = inr there
-in-either x (y ∷ xs) ys there = by_test (y == x) there (in-either x xs ys)
-  where
-    by_test : (b : Bool) → (b || is_in x (xs ++ ys)) ≡ true → (is_in x (xs ++ ys) ≡ true → (is_in x xs ≡ true) ⊎ (is_in x ys ≡ true)) → ((b || is_in x xs) ≡ true) ⊎ (is_in x ys ≡ true)
-    by_test true there later = inl refl
-    by_test false there later = later there
-
-in-first : (x : ℕ) (xs : List ℕ) → is_in x (x ∷ xs) ≡ true
-in-first x xs = or_left (x == x) (is_in x xs) (eq-eqb x x refl)
-
 join-distinct : (xs ys : List ℕ) → all_distinct xs ≡ true → all_distinct ys ≡ true → ((x : ℕ) → is_in x xs ≡ true → is_in x ys ≡ true → ⊥) → all_distinct (xs ++ ys) ≡ true
 join-distinct [] ys front back apart = back
 join-distinct (x ∷ xs) ys front back apart =
@@ -37,7 +27,7 @@ join-distinct (x ∷ xs) ys front back apart =
     (join-distinct xs ys parts.1 back (λ z there. apart z (or_right (x == z) (is_in z xs) there)))
   where
     absent : (b : Bool) → is_in x (xs ++ ys) ≡ b → not (is_in x (xs ++ ys)) ≡ true
-    absent true is = absurd (⊎_elim (λ here. true≢false (sym here ∙ not-true _ (and_parts (not (is_in x xs)) (all_distinct xs) front).0)) (λ there. apart x (in-first x xs) there) (in-either x xs ys is))
+    absent true is = absurd (⊎_elim (λ here. true≢false (sym here ∙ not-true _ (and_parts (not (is_in x xs)) (all_distinct xs) front).0)) (λ there. apart x (in_first x xs) there) (in_either x xs ys is))
     absent false is = ap not is
 
 -- ---- what is reserved
@@ -60,8 +50,8 @@ takes-reserved : (trie : Trie) (count : ℕ) (taken now : List Bool) (numbers : 
     → AllTaken now (named trie ++ numbers) × (all_distinct (named trie ++ numbers) ≡ true)
 takes-reserved trie count taken now numbers all distinct r = (
   record {
-    below = λ x there. ⊎_elim (λ here. let small = named_all.below x here in let size = r.same_extents in omega arith) (λ here. mine.below x here) (in-either x (named trie) numbers there);
-    each = λ x there. ⊎_elim (λ here. r.others_stay x ∙ ap (λ b. b && not (is_in x r.numbers)) (named_all.each x here)) (λ here. mine.each x here) (in-either x (named trie) numbers there);
+    below = λ x there. ⊎_elim (λ here. let small = named_all.below x here in let size = r.same_extents in omega arith) (λ here. mine.below x here) (in_either x (named trie) numbers there);
+    each = λ x there. ⊎_elim (λ here. r.others_stay x ∙ ap (λ b. b && not (is_in x r.numbers)) (named_all.each x here)) (λ here. mine.each x here) (in_either x (named trie) numbers there);
   },
   join-distinct (named trie) numbers (subst (λ xs. all_distinct xs ≡ true) (append-nil (named trie)) distinct) (reserved-distinct count taken now numbers r)
       (λ x here there. true≢false (sym (was_free count taken now numbers r x there) ∙ named_all.each x here)),

@@ -2,9 +2,10 @@
 use Rattle.std.proofs.Common.{◌≡◌, ℕ, zero, suc, ◌+◌, ◌-◌, ◌<◌, ◌≤◌, ◌≢◌, refl, sym, ap, subst, ◌∙◌, List, [], ◌∷◌, ◌++◌, length, take, drop, get_or, Bool, true, false, not, ◌||◌, Option, Some, None, ◌⊎◌, inl, inr, ⊎_elim, arith, eqb-true, eq-eqb, true≢false}
 use Rattle.std.specs.Prelude.{◌==◌, slice_get, slice_range, IsTrue}
 use Rattle.std.specs.List.{AllByRecursion}
-use Rattle.std.proofs.lemmas.Bool.{and_parts}
+use Rattle.std.proofs.lemmas.Bool.{and_parts, or_cases, or_right, not-true}
 use Rattle.std.proofs.lemmas.List.{map-append, take_more}
 use Rattle.lt_terms.specs.Bytes.{Image, block_at, is_in}
+use Rattle.lt_terms.proofs.AmongLaws.{in_at, in_drop, in_either, in_take}
 use Rattle.lt_format.specs.declared.geometry.Geometry.{Geometry}
 use Rattle.lt_format.specs.Layout.{extent_block}
 use Rattle.lt_format.specs.Trie.{all_distinct}
@@ -21,58 +22,18 @@ use Rattle.lt_compact.specs.Plans.{MayFill}
 
 -- ---- numbers among others
 
-or_split : (a b : Bool) → (a || b) ≡ true → (a ≡ true) ⊎ (b ≡ true)
-or_split true b h = inl refl
-or_split false b h = inr h
-
-or_right : (a b : Bool) → b ≡ true → (a || b) ≡ true
-or_right true b h = refl
-or_right false b h = h
-
-in-append : (x : ℕ) (xs ys : List ℕ) → is_in x (xs ++ ys) ≡ true → (is_in x xs ≡ true) ⊎ (is_in x ys ≡ true)
-in-append x [] ys h = inr h
-in-append x (y ∷ xs) ys h = ⊎_elim
-    (λ (here : (y == x) ≡ true). inl (ap (λ b. b || is_in x xs) here))
-    (λ (there : is_in x (xs ++ ys) ≡ true). ⊎_elim
-    (λ (first : is_in x xs ≡ true). inl (or_right (y == x) (is_in x xs) first))
-    (λ (second : is_in x ys ≡ true). inr second)
-    (in-append x xs ys there))
-    (or_split (y == x) (is_in x (xs ++ ys)) h)
-
-in-take : (x n : ℕ) (xs : List ℕ) → is_in x (take n xs) ≡ true → is_in x xs ≡ true
-in-take x zero xs h = absurd (true≢false (sym h))
-in-take x (suc n) [] h = h
-in-take x (suc n) (y ∷ xs) h = ⊎_elim
-    (λ (here : (y == x) ≡ true). ap (λ b. b || is_in x xs) here)
-    (λ (there : is_in x (take n xs) ≡ true). or_right (y == x) (is_in x xs) (in-take x n xs there))
-    (or_split (y == x) (is_in x (take n xs)) h)
-
-in-drop : (x n : ℕ) (xs : List ℕ) → is_in x (drop n xs) ≡ true → is_in x xs ≡ true
-in-drop x zero xs h = h
-in-drop x (suc n) [] h = h
-in-drop x (suc n) (y ∷ xs) h = or_right (y == x) (is_in x xs) (in-drop x n xs h)
-
 -- some behind the first are among the first of all
 in-front : (x m n k : ℕ) (xs : List ℕ) → m + n ≤ k → is_in x (take n (drop m xs)) ≡ true → is_in x (take k xs) ≡ true
-in-front x zero n k [] le h = absurd (true≢false (sym (in-take x n [] h)))
+in-front x zero n k [] le h = absurd (true≢false (sym (in_take x n [] h)))
 in-front x zero zero k (y ∷ xs) le h = absurd (true≢false (sym h))
 in-front x zero (suc n) zero (y ∷ xs) le h = absurd (omega arith)
 in-front x zero (suc n) (suc k) (y ∷ xs) le h = ⊎_elim
     (λ (here : (y == x) ≡ true). ap (λ b. b || is_in x (take k xs)) here)
     (λ (there : is_in x (take n xs) ≡ true). or_right (y == x) (is_in x (take k xs)) (in-front x zero n k xs (omega arith) there))
-    (or_split (y == x) (is_in x (take n xs)) h)
-in-front x (suc m) n k [] le h = absurd (true≢false (sym (in-take x n [] h)))
+    (or_cases (y == x) (is_in x (take n xs)) h)
+in-front x (suc m) n k [] le h = absurd (true≢false (sym (in_take x n [] h)))
 in-front x (suc m) n zero (y ∷ xs) le h = absurd (omega arith)
 in-front x (suc m) n (suc k) (y ∷ xs) le h = or_right (y == x) (is_in x (take k xs)) (in-front x m n k xs (omega arith) h)
-
-pub in-at : (xs : List ℕ) (k : ℕ) → k < length xs → is_in (get_or xs k 0) xs ≡ true
-in-at [] k below = absurd (omega arith)
-in-at (y ∷ xs) zero below = ap (λ b. b || is_in y xs) (eq-eqb y y refl)
-in-at (y ∷ xs) (suc k) below = or_right (y == get_or xs k 0) (is_in (get_or xs k 0) xs) (in-at xs k (omega arith))
-
-not_true : (b : Bool) → not b ≡ true → b ≡ false
-not_true true h = absurd (true≢false (sym h))
-not_true false h = refl
 
 -- where none stands twice, one that stands earlier is another
 distinct-at : (xs : List ℕ) (k x : ℕ) → all_distinct xs ≡ true → k < length xs → is_in x (take k xs) ≡ true → x ≢ get_or xs k 0
@@ -81,9 +42,9 @@ distinct-at (y ∷ xs) zero x once below h = absurd (true≢false (sym h))
 distinct-at (y ∷ xs) (suc k) x once below h =
     let parts = and_parts (not (is_in y xs)) (all_distinct xs) once in ⊎_elim
     (λ (here : (y == x) ≡ true).
-    let same : y ≡ x = eqb-true y x here in λ e. true≢false (sym (subst (λ z. is_in z xs ≡ true) (sym (same ∙ e)) (in-at xs k (omega arith))) ∙ not_true (is_in y xs) parts.0))
+    let same : y ≡ x = eqb-true y x here in λ e. true≢false (sym (subst (λ z. is_in z xs ≡ true) (sym (same ∙ e)) (in_at xs k 0 (omega arith))) ∙ not-true (is_in y xs) parts.0))
     (λ (there : is_in x (take k xs) ≡ true). distinct-at xs k x parts.1 (omega arith) there)
-    (or_split (y == x) (is_in x (take k xs)) h)
+    (or_cases (y == x) (is_in x (take k xs)) h)
 
 -- ---- the tables of a group
 
@@ -107,22 +68,22 @@ all-at P (y ∷ xs) (suc i) x all is = all-at P xs i x all.1 is
 pub group-others : (g : Geometry) (blocks : ℕ) (shares : List Share) (numbers : List ℕ) (i : ℕ) (s : Share) (first place filled a b x : ℕ) → MayFill g blocks shares numbers → slice_get shares i ≡ Some s
     → filled ≡ first + place → length s.parts ≤ place → filled < length numbers → is_in x (slice_range (s.behind ++ take (length s.parts) (drop first numbers)) a b) ≡ true → IsOther g blocks (get_or numbers filled 0) x
 group-others g blocks shares numbers i s first place filled a b x may there is above below found =
-    ⊎_elim old new (in-append x s.behind (take (length s.parts) (drop first numbers)) (in-drop x a (s.behind ++ take (length s.parts) (drop first numbers)) (in-take x (b - a) (drop a (s.behind ++ take (length s.parts) (drop first numbers))) found)))
+    ⊎_elim old new (in_either x s.behind (take (length s.parts) (drop first numbers)) (in_drop x a (s.behind ++ take (length s.parts) (drop first numbers)) (in_take x (b - a) (drop a (s.behind ++ take (length s.parts) (drop first numbers))) found)))
   where
     old : is_in x s.behind ≡ true → IsOther g blocks (get_or numbers filled 0) x
     old h = record {
-      other = λ e. true≢false (sym (subst (λ z. is_in z numbers ≡ true) (sym e) (in-at numbers filled below)) ∙ all-at (λ (s : Share). (x : ℕ) → IsTrue (is_in x s.behind) → is_in x numbers ≡ false) shares i s may.apart there x h);
+      other = λ e. true≢false (sym (subst (λ z. is_in z numbers ≡ true) (sym e) (in_at numbers filled 0 below)) ∙ all-at (λ (s : Share). (x : ℕ) → IsTrue (is_in x s.behind) → is_in x numbers ≡ false) shares i s may.apart there x h);
       within = all-at (λ (s : Share). (x : ℕ) → IsTrue (is_in x s.behind) → extent_block g x + 65 ≤ blocks) shares i s may.behind there x h;
     }
 
     new : is_in x (take (length s.parts) (drop first numbers)) ≡ true → IsOther g blocks (get_or numbers filled 0) x
     new h = record {
       other = distinct-at numbers filled x may.distinct below (in-front x first (length s.parts) filled numbers (omega arith) h);
-      within = may.within x (in-drop x first numbers (in-take x (length s.parts) (drop first numbers) h));
+      within = may.within x (in_drop x first numbers (in_take x (length s.parts) (drop first numbers) h));
     }
 
 pub number-within : (g : Geometry) (blocks : ℕ) (shares : List Share) (numbers : List ℕ) (filled : ℕ) → MayFill g blocks shares numbers → filled < length numbers → extent_block g (get_or numbers filled 0) + 65 ≤ blocks
-number-within g blocks shares numbers filled may below = may.within (get_or numbers filled 0) (in-at numbers filled below)
+number-within g blocks shares numbers filled may below = may.within (get_or numbers filled 0) (in_at numbers filled 0 below)
 
 -- ---- the filter blocks stay
 

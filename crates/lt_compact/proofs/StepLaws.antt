@@ -22,6 +22,8 @@ use Rattle.lt_format.specs.Trie.{Trie, is_last_level, node_at, same_node}
 use Rattle.lt_format.proofs.TrieLaws.{same_node-itself}
 use Rattle.lt_image.specs.Shares.{Share, child_share, has_tables, rewrite_share, deal_shares, shares_of}
 use Rattle.lt_image.specs.Versions.{items_at, pile_items}
+use Rattle.lt_image.proofs.SlackLaws.{none_twice}
+use Rattle.lt_image.proofs.TableSoundLaws.{option_short}
 use Rattle.lt_compact.specs.Plans.{are_shared, children_shared, is_own}
 use Rattle.lt_compact.specs.Jobs.{scanning, planned, is_loose, KeepsStage}
 use Rattle.lt_compact.proofs.LocalLaws.{shares_of-newest}
@@ -123,33 +125,8 @@ no_delete : (items : List Item) → AllByRecursion (λ (v : Item). is_put v ≡ 
 no_delete [] all = refl
 no_delete (v ∷ items) all = ap (λ b. not b || has_delete items) all.0 ∙ no_delete items all.1
 
--- what is kept has no delete that was not there, and no key twice
-once-no_two : (items : List Item) → ((key : List ℕ) → length (versions_of key items) ≤ 1) → has_two_versions items ≡ false
-once-no_two [] h = refl
-once-no_two (v ∷ vs) h =
-    ap (λ b. b || has_two_versions vs) (alone (has_key v.key vs) refl) ∙ once-no_two vs (λ key. fewer (same_bytes v.key key) (versions_of key vs) (h key))
-  where
-    fewer : (t : Bool) (ws : List Item) → length (cond t (v ∷ ws) ws) ≤ 1 → length ws ≤ 1
-    fewer true ws h = omega arith
-    fewer false ws h = h
-
-    none : length (versions_of v.key vs) ≡ 0
-    none = let here = subst (λ t. length (cond t (v ∷ versions_of v.key vs) (versions_of v.key vs)) ≤ 1) ((bytes_decides v.key v.key).1 refl) (h v.key) in omega arith
-
-    nothing : (ws : List Item) → length ws ≡ 0 → is_some (last_or None ws) ≡ false
-    nothing [] e = refl
-    nothing (w ∷ ws) e = absurd (omega arith)
-
-    alone : (b : Bool) → has_key v.key vs ≡ b → has_key v.key vs ≡ false
-    alone true e = absurd (true≢false (sym e ∙ sym (has_key-newest_of v.key vs) ∙ nothing (versions_of v.key vs) none))
-    alone false e = e
-
-few : (o : Option Item) → length (option_to_list o) ≤ 1
-few None = omega arith
-few (Some v) = omega arith
-
 newest-no_two : (items : List Item) → has_two_versions (newest items) ≡ false
-newest-no_two items = once-no_two (newest items) (λ key. subst (λ (xs : List Item). length xs ≤ 1) (sym ((HasOnce-newest items).each key)) (few (newest_of key (newest items))))
+newest-no_two items = none_twice (newest items) (λ key. subst (λ (xs : List Item). length xs ≤ 1) (sym ((HasOnce-newest items).each key)) (option_short (newest_of key (newest items))))
 
 -- older versions that were dropped are told, so that what was kept tells the rest
 pub is_loose-more : (all items : List Item) → (is_loose all || is_loose (newest all ++ items)) ≡ is_loose (all ++ items)

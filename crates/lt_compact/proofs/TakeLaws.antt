@@ -6,34 +6,17 @@ use Rattle.std.proofs.lemmas.Bool.{and_from, eqb-true, true≢false}
 use Rattle.std.proofs.lemmas.List.{ext_get_or}
 use Rattle.std.proofs.lemmas.List.Sums.{sum_by-cons}
 use Rattle.lt_terms.specs.Bytes.{is_in}
+use Rattle.lt_terms.proofs.AmongLaws.{in_place}
 use Rattle.lt_alloc.specs.Extents.{is_free, Reserves}
 use Rattle.lt_alloc.proofs.StackLaws.{is_free-within}
 use Rattle.lt_format.specs.Changes.{ChildChange}
 use Rattle.lt_format.specs.Trie.{all_distinct}
+use Rattle.lt_format.proofs.Numbers.{pairs-distinct}
 use Rattle.lt_image.specs.Shares.{Share, share_extents}
 use Rattle.lt_compact.specs.Extents.{AllTaken}
 use Rattle.lt_compact.specs.Plans.{all_given, extents_for, given_by}
 
 -- ---- numbers at places
-
-later-place : (x y : ℕ) (ys : List ℕ) → (is_in x ys ≡ true → (i : ℕ) × (i < length ys) × (get_or ys i 0 ≡ x)) → (b : Bool) → (y == x) ≡ b → (b || is_in x ys) ≡ true → (i : ℕ) × (i < length (y ∷ ys)) × (get_or (y ∷ ys) i 0 ≡ x)
-later-place x y ys rest true is there = (0, omega arith, eqb-true y x is)
-later-place x y ys rest false is there =
-    let later = rest there in
-    let below = later.1 in
-    (suc later.0, omega (arith, below), later.2)
-
-place_of : (x : ℕ) (xs : List ℕ) → is_in x xs ≡ true → (i : ℕ) × (i < length xs) × (get_or xs i 0 ≡ x)
-place_of x [] there = absurd (true≢false (sym there))
-place_of x (y ∷ ys) there = later-place x y ys (place_of x ys) (y == x) refl there
-
-pairs-distinct : (xs : List ℕ) → ((i j : ℕ) → i < j → j < length xs → get_or xs i 0 ≢ get_or xs j 0) → all_distinct xs ≡ true
-pairs-distinct [] apart = refl
-pairs-distinct (x ∷ xs) apart = and_from (not (is_in x xs)) (all_distinct xs) (first (is_in x xs) refl) (pairs-distinct xs (λ i j less below. apart (suc i) (suc j) (omega arith) (omega arith)))
-  where
-    first : (b : Bool) → is_in x xs ≡ b → not (is_in x xs) ≡ true
-    first true is = let at = place_of x xs is in let below = at.1 in absurd (apart 0 (suc at.0) (omega arith) (omega (arith, below)) (sym at.2))
-    first false is = ap not is
 
 -- ---- what was reserved
 
@@ -43,7 +26,7 @@ module _ (count : ℕ) (taken now : List Bool) (numbers : List ℕ) (r : Reserve
 
   pub was_free : (x : ℕ) → is_in x numbers ≡ true → is_free taken x ≡ true
   was_free x there =
-      let at = place_of x r.numbers (subst (λ xs. is_in x xs ≡ true) r.appended there) in
+      let at = in_place x r.numbers (subst (λ xs. is_in x xs ≡ true) r.appended there) in
       subst (λ y. is_free taken y ≡ true) at.2 (r.were_free at.0 0 at.1)
 
   pub reserved-distinct : all_distinct numbers ≡ true

@@ -4,6 +4,7 @@ use Rattle.std.specs.Prelude.{IfOk, OnErr}
 use Rattle.std.specs.List.{AllByRecursion}
 use Rattle.std.proofs.lemmas.Bool.{eq-eqb, true≢false}
 use Rattle.lt_terms.specs.Bytes.{is_in}
+use Rattle.lt_terms.proofs.AmongLaws.{in_left, in_right}
 use Rattle.lt_device.specs.Calls.{OnlyReads, ReadsAndWrites}
 use Rattle.lt_device.specs.declared.device.Device.{Ghosts}
 use Rattle.lt_device.specs.Moments.{ConfinedTo, ShowsSameOutside}
@@ -20,7 +21,7 @@ use Rattle.lt_compact.specs.Extents.{AllTaken}
 use Rattle.lt_compact.specs.Jobs.{JobView, Stage, filling, taken_in, is_filled, is_shaped_stage, IsShaped}
 use Rattle.lt_compact.specs.Plans.{MayFill}
 use Rattle.lt_compact.proofs.AdvanceLaws.{filling-parts}
-use Rattle.lt_compact.proofs.ExtentLaws.{all_those, apart-joined, distinct_behind, each_of, in_back, in_front}
+use Rattle.lt_compact.proofs.ExtentLaws.{all_those, apart-joined, distinct_behind, each_of}
 use Rattle.lt_compact.proofs.LocalLaws.{behind_those, sources_named}
 
 -- ---- where the extents lie
@@ -36,7 +37,7 @@ source-named levels trie j s x there =
 
 pub sources-within : (g : Geometry) (trie : Trie) (taken : List Bool) (blocks : ℕ) (j : JobView) → IsShaped g.levels trie j → AllTaken taken (named trie ++ taken_in j.stage) → blocks_needed g (length taken) ≤ blocks → (x : ℕ) → is_in x j.sources ≡ true → extent_block g x + 65 ≤ blocks
 sources-within g trie taken blocks j s all fits x there =
-    within g taken (named trie ++ taken_in j.stage) blocks all fits x (in_front x (named trie) (taken_in j.stage) (source-named g.levels trie j s x there))
+    within g taken (named trie ++ taken_in j.stage) blocks all fits x (in_left x (named trie) (taken_in j.stage) (source-named g.levels trie j s x there))
 
 -- ---- the extents that shares may be written to
 
@@ -56,9 +57,9 @@ may-fill g trie taken blocks j s all distinct fits shares numbers filled is =
       distinct = distinct_behind (named trie) numbers apart;
       apart = each_share (λ y. is_in y (named trie) ≡ true) (λ (s : Share). (x : ℕ) → is_in x s.behind ≡ true → is_in x numbers ≡ false) shares
           (λ s there x here. apart-joined (named trie) numbers apart x (each_of (λ y. is_in y (named trie) ≡ true) s.behind there x here)) behind;
-      within = λ x there. within g taken (named trie ++ numbers) blocks those fits x (in_back x (named trie) numbers there);
+      within = λ x there. within g taken (named trie ++ numbers) blocks those fits x (in_right x (named trie) numbers there);
       behind = each_share (λ y. is_in y (named trie) ≡ true) (λ (s : Share). (x : ℕ) → is_in x s.behind ≡ true → extent_block g x + 65 ≤ blocks) shares
-          (λ s there x here. within g taken (named trie ++ numbers) blocks those fits x (in_front x (named trie) numbers (each_of (λ y. is_in y (named trie) ≡ true) s.behind there x here))) behind;
+          (λ s there x here. within g taken (named trie ++ numbers) blocks those fits x (in_left x (named trie) numbers (each_of (λ y. is_in y (named trie) ≡ true) s.behind there x here))) behind;
     }
 
 -- a job that is not ready has an extent left to fill

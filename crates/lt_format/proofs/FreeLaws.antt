@@ -206,7 +206,8 @@ no_elements (x ∷ xs) h = absurd (omega arith)
 pub bare_inner : (levels extents : ℕ) (trie : Trie) (id : NodeId) → IsTrie levels extents trie → is_last_level levels id ≡ false → (node_at trie id).groups ≡ []
 bare_inner levels extents trie id t inner = no_elements (node_at trie id).groups (shaped-inner levels extents id (node_at trie id) inner (node_at-shaped levels extents trie id t.nodes)).1
 
-root_inner : (levels : ℕ) → 2 ≤ levels → is_last_level levels root ≡ false
+-- the root is no last-level node
+pub root_inner : (levels : ℕ) → 2 ≤ levels → is_last_level levels root ≡ false
 root_inner levels deep = ne_eqb (0 + 1) levels (λ e. absurd (omega arith))
 
 inner_deal : (levels : ℕ) (trie : Trie) (node : NodeId) (dropped : ℕ) (children : List ChildChange) → shape_fits levels trie (deal node dropped children) ≡ true → is_last_level levels node ≡ false

@@ -1,10 +1,11 @@
 -- How often a number stands in a list, and what that says of lists without repetition.
-use Rattle.std.proofs.Common.{◌≡◌, ℕ, zero, suc, ◌+◌, ◌<◌, ◌≤◌, refl, sym, ap, subst, ◌∙◌, List, [], ◌∷◌, ◌++◌, length, take, drop, Bool, true, false, not, cond, ◌||◌, ◌⊎◌, inl, inr, ⊎_elim, arith}
+use Rattle.std.proofs.Common.{◌≡◌, ℕ, zero, suc, ◌+◌, ◌<◌, ◌≤◌, refl, sym, ap, subst, ◌∙◌, List, [], ◌∷◌, ◌++◌, length, take, drop, Bool, true, false, not, cond, ◌||◌, ◌⊎◌, inl, inr, ⊎_elim, arith, ◌≢◌, get_or}
 use Rattle.std.specs.Prelude.{◌==◌, nat_lt}
 use Rattle.std.specs.List.{filter, list_all}
 use Rattle.std.proofs.lemmas.List.{take-append-drop}
 use Rattle.std.proofs.lemmas.Bool.{and_parts, and_from, true≢false, not-true, not_from_false, ltb-true, eqb-true, lt-ltb, eq-eqb, ne_eqb, cases_lt, cases_eq}
 use Rattle.lt_terms.specs.Bytes.{is_in}
+use Rattle.lt_terms.proofs.AmongLaws.{in_place}
 use Rattle.lt_format.specs.Trie.{all_distinct, all_below}
 
 -- how often x stands in the list
@@ -146,3 +147,21 @@ distinct-joined before new after old fresh apart bound =
 pub below-joined : (n : ℕ) (before new after : List ℕ) → all_below n before ≡ true → all_below n new ≡ true → ((x : ℕ) → times x after ≤ times x before + times x new) → all_below n after ≡ true
 below-joined n before new after old fresh bound =
     below-times n after (λ x past. omega (arith, bound x, times-below n before old x past, times-below n new fresh x past))
+
+-- another number stays as often
+pub others-stay : (n x : ℕ) (xs : List ℕ) → x ≢ n → times x xs ≤ times x (without n xs)
+others-stay n x [] differ = omega arith
+others-stay n x (y ∷ ys) differ = by_head (y == n) refl (others-stay n x ys differ)
+  where
+    by_head : (b : Bool) → (y == n) ≡ b → times x ys ≤ times x (without n ys) → cond (y == x) 1 0 + times x ys ≤ times x (cond (not b) (y ∷ without n ys) (without n ys))
+    by_head true is rest = let other : (y == x) ≡ false = ne_eqb y x (λ same. differ (sym same ∙ eqb-true y n is)) in rw other (omega arith)
+    by_head false is rest = omega arith
+
+-- numbers that differ at each two places are distinct
+pub pairs-distinct : (xs : List ℕ) → ((i j : ℕ) → i < j → j < length xs → get_or xs i 0 ≢ get_or xs j 0) → all_distinct xs ≡ true
+pairs-distinct [] apart = refl
+pairs-distinct (x ∷ xs) apart = and_from (not (is_in x xs)) (all_distinct xs) (first (is_in x xs) refl) (pairs-distinct xs (λ i j less below. apart (suc i) (suc j) (omega arith) (omega arith)))
+  where
+    first : (b : Bool) → is_in x xs ≡ b → not (is_in x xs) ≡ true
+    first true is = let at = in_place x xs is in let below = at.1 in absurd (apart 0 (suc at.0) (omega arith) (omega (arith, below)) (sym at.2))
+    first false is = ap not is

@@ -1,7 +1,8 @@
 -- No two regions share a block.
-use Rattle.std.proofs.Common.{◌≡◌, ℕ, zero, suc, ◌<◌, refl, ap, ◌∙◌, arith}
+use Rattle.std.proofs.Common.{◌≡◌, ℕ, zero, suc, ◌<◌, refl, ap, ◌∙◌, arith, ◌≤◌, true, ◌&&◌, nat_le}
+use Rattle.std.proofs.lemmas.Bool.{and_parts, leb-true}
 use Rattle.lt_format.specs.declared.geometry.Geometry.{Geometry}
-use Rattle.lt_format.specs.Layout.{blocks_needed}
+use Rattle.lt_format.specs.Layout.{blocks_needed, is_geometry}
 use Rattle.lt_format.specs.Regions.{Region, superblock, selector, snapshot, edit_slot, log_slot, extent, IsRegion, IsIn}
 
 pub regions-apart : (g : Geometry) (extents n : ℕ) (r s : Region) → IsRegion g extents r → IsRegion g extents s → IsIn g n r → IsIn g n s → r ≡ s
@@ -28,3 +29,10 @@ regions-within g extents n (log_slot zero k) a x = omega arith
 regions-within g extents n (log_slot (suc zero) k) a x = omega arith
 regions-within g extents n (log_slot (suc (suc i)) k) a x = absurd (omega arith)
 regions-within g extents n r a x = omega arith
+
+-- a geometry has two levels or more
+pub geometry-deep : (g : Geometry) → is_geometry g ≡ true → 2 ≤ g.levels
+geometry-deep g valid =
+    let most = and_parts (nat_le 2 g.levels && nat_le g.levels 5 && nat_le 1 g.slots) (nat_le g.slots 512) valid in
+    let some = and_parts (nat_le 2 g.levels && nat_le g.levels 5) (nat_le 1 g.slots) most.0 in
+    leb-true 2 g.levels (and_parts (nat_le 2 g.levels) (nat_le g.levels 5) some.0).0

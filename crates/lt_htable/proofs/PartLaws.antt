@@ -11,6 +11,7 @@ use Rattle.lt_tables.specs.Table.{newest}
 use Rattle.lt_tables.specs.Placement.{entry_of}
 use Rattle.lt_tables.proofs.CutLaws.{cut-joined, cut-tables}
 use Rattle.lt_tables.proofs.RankedCutLaws.{cut-ranked}
+use Rattle.lt_tables.proofs.RankedLaws.{pieces-count}
 use Rattle.lt_htable.specs.Cutting.{IsPart}
 
 valid-each : (items : List Item) → list_all is_valid items ≡ true → AllByRecursion (λ (item : Item). IsTrue (is_valid item)) items
@@ -30,10 +31,6 @@ parts-of f tables items is ranked valid =
     let tables_are : AllByRecursion IsTable (cut items) = cut-tables items (valid-each items valid) in
     let ranks : AllByRecursion (λ table. newest table ≡ table) (cut items) = recursion_from_All (λ (table : List Item). newest table ≡ table) (cut items) (cut-ranked items ranked) in
     All-from_recursion (λ t. IsPart (f t)) tables (each-mapped IsPart f tables (subst (AllByRecursion IsPart) (sym is) (both-each (cut items) tables_are ranks)))
-
-pieces-count : (ns : List ℕ) (items : List Item) → length (pieces ns items) ≡ length ns
-pieces-count [] items = refl
-pieces-count (n ∷ ns) items = ap suc (pieces-count ns (drop n items))
 
 pub parts-count : {A : Type 0} (f : A → List Item) (tables : List A) (items : List Item) → map f tables ≡ cut items → length tables ≡ table_total items
 parts-count f tables items is = sym (length-map tables f) ∙ ap length is ∙ pieces-count (cut_counts (map entry_of items)) items

@@ -10,7 +10,6 @@ use Rattle.lt_terms.specs.Items.{Item}
 use Rattle.lt_tables.specs.Placement.{columns}
 use Rattle.lt_tables.specs.Table.{IsPlaced, newest}
 use Rattle.lt_tables.specs.Filter.{group_block}
-use Rattle.lt_tables.proofs.FitLaws.{all_weaker}
 use Rattle.lt_format.specs.declared.node_id.NodeId.{NodeId}
 use Rattle.lt_format.specs.declared.geometry.Geometry.{Geometry}
 use Rattle.lt_format.specs.Layout.{extent_block, area_block}
@@ -24,7 +23,7 @@ use Rattle.lt_image.specs.After.{SameExtent, SameExtents}
 use Rattle.lt_image.proofs.SoundLaws.{flat_map_nil, nil_flat_map, nil_append}
 use Rattle.lt_image.proofs.MapLaws.{same_items}
 use Rattle.lt_image.proofs.TableSoundLaws.{filter-range, same_bad_in_table, Holdable, placed-sound}
-use Rattle.lt_tables.proofs.ListLaws.{all_drop, all_left, all_right, all_take}
+use Rattle.lt_tables.proofs.ListLaws.{all_drop, all_left, all_right, all_take, all_weaker}
 
 -- the nodes of a trie have no bad block
 abbrev pub SoundNodes : Geometry → Image → Trie → Type 0
@@ -42,7 +41,7 @@ same_tables_blocks : (g : Geometry) (old new : Image) (id : NodeId) (xs : List �
 same_tables_blocks g old new id [] same = refl
 same_tables_blocks g old new id (x ∷ xs) same = λ i. same_table_blocks g old new id x same.0 i ++ same_tables_blocks g old new id xs same.1 i
 
-same_filters : (g : Geometry) (old new : Image) (xs : List ℕ) → SameExtents g old new xs → filter_blocks g new xs ≡ filter_blocks g old xs
+pub same_filters : (g : Geometry) (old new : Image) (xs : List ℕ) → SameExtents g old new xs → filter_blocks g new xs ≡ filter_blocks g old xs
 same_filters g old new [] same = refl
 same_filters g old new (x ∷ xs) same = let h : extent_in g new x 64 ≡ extent_in g old x 64 = same.0 64 (omega arith) in λ i. h i ∷ same_filters g old new xs same.1 i
 

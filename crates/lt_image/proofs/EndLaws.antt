@@ -7,8 +7,8 @@ use Rattle.std.proofs.lemmas.Bool.{eqb-true, eq-eqb, leb-true, lt-leb, ne_eqb}
 use Rattle.std.proofs.lemmas.List.{length-drop}
 use Rattle.std.proofs.lemmas.List.FromFn.{length-map-range_with_len}
 use Rattle.std.proofs.lemmas.List.Sums.{sum_by-cons}
-use Rattle.lt_tables.proofs.FitLaws.{all_weaker, sum_total, total}
-use Rattle.lt_tables.proofs.ListLaws.{all_join}
+use Rattle.lt_tables.proofs.FitLaws.{sum_total, total}
+use Rattle.lt_tables.proofs.ListLaws.{all_join, all_weaker}
 use Rattle.lt_format.specs.declared.node_id.NodeId.{NodeId}
 use Rattle.lt_format.specs.Changes.{ChildChange, deal, rewrite, fits, new_extents, child_after, after_child, without_oldest, after_change, children_fit}
 use Rattle.lt_format.specs.Trie.{Node, Trie, IsTrie, all_below, is_last_level, named, node_cmp, node_at, node_extents, with_node}

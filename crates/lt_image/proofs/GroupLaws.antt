@@ -7,7 +7,7 @@ use Rattle.std.proofs.lemmas.List.{drop-append-le, take-append-le, length-drop}
 use Rattle.lt_terms.specs.Bytes.{Image, same_bytes}
 use Rattle.lt_tables.specs.Placement.{columns}
 use Rattle.lt_tables.specs.Filter.{group_block, IsGroup}
-use Rattle.lt_tables.proofs.FitLaws.{all_weaker}
+use Rattle.lt_tables.proofs.ListLaws.{all_weaker}
 use Rattle.lt_format.specs.declared.node_id.NodeId.{NodeId}
 use Rattle.lt_format.specs.declared.geometry.Geometry.{Geometry}
 use Rattle.lt_format.specs.Layout.{extent_block}

@@ -14,7 +14,7 @@ use Rattle.lt_tables.specs.Cut.{cut}
 use Rattle.lt_tables.specs.Table.{newest, with_digit, without_deletes, is_put}
 use Rattle.lt_tables.proofs.CutLaws.{cut-joined}
 use Rattle.lt_tables.proofs.FitLaws.{total}
-use Rattle.lt_tables.proofs.ListLaws.{all_take}
+use Rattle.lt_tables.proofs.ListLaws.{all_take, filter_few}
 use Rattle.lt_format.specs.declared.header.Header.{Header}
 use Rattle.lt_format.specs.declared.node_id.NodeId.{NodeId}
 use Rattle.lt_format.specs.declared.geometry.Geometry.{Geometry}
@@ -136,14 +136,6 @@ few_still : (o p : Opened) (old new : Image) → p.named.manifest.header.writes 
 few_still o p old new writes sound fewer = omega (arith, writes, fewer, stored-few o old sound)
 
 -- ---- a rewriting
-
-filter_few : (test : Item → Bool) (xs : List Item) → length (filter test xs) ≤ length xs
-filter_few test [] = omega arith
-filter_few test (x ∷ xs) = by_test (test x) (filter_few test xs)
-  where
-    by_test : (b : Bool) → length (filter test xs) ≤ length xs → length (cond b (x ∷ filter test xs) (filter test xs)) ≤ suc (length xs)
-    by_test true h = omega arith
-    by_test false h = omega arith
 
 after_rewrite : (g : Geometry) (image : Image) (trie : Trie) (id : NodeId) (tables groups : List ℕ) → id.level < g.levels → is_sorted node_cmp trie ≡ true
     → length (items_above g image (after_change trie (rewrite id tables groups)) g.levels) + pile_count g image (node_at trie id).tables ≤ length (items_above g image trie g.levels) + pile_count g image tables

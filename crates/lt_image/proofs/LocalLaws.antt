@@ -6,7 +6,7 @@ use Rattle.lt_language.specs.Machine.{State}
 use Rattle.std.proofs.lemmas.Bool.{lt-leb, le-leb, lt-ltb, leb-true, ltb-true, and_parts, and_from, not-true, not_from_false}
 use Rattle.std.proofs.Math.Bool.{and-false}
 use Rattle.lt_tables.proofs.CoverLaws.{within_itself}
-use Rattle.lt_tables.proofs.FitLaws.{all_weaker}
+use Rattle.lt_tables.proofs.ListLaws.{all_weaker}
 use Rattle.lt_format.specs.Layout.{log_gate, log_content, extent_block, extent_blocks}
 use Rattle.lt_format.specs.Log.{log_groups}
 use Rattle.lt_format.specs.Snapshot.{◌>>=◌, Named, manifest_of}

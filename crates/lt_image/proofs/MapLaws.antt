@@ -10,11 +10,10 @@ use Rattle.lt_tables.specs.Bucket.{items_on}
 use Rattle.lt_tables.specs.Placement.{columns}
 use Rattle.lt_tables.specs.Table.{table_items, newest_of, value_of}
 use Rattle.lt_tables.specs.Alike.{SameNewest}
-use Rattle.lt_tables.proofs.FitLaws.{all_weaker}
 use Rattle.lt_tables.proofs.TableLaws.{flat_map-range}
 use Rattle.lt_tables.proofs.NewestLaws.{SameNewest-refl}
 use Rattle.lt_tables.proofs.VersionLaws.{get_versions}
-use Rattle.lt_tables.proofs.ListLaws.{all_left, all_right}
+use Rattle.lt_tables.proofs.ListLaws.{all_left, all_right, all_weaker}
 use Rattle.lt_format.specs.declared.node_id.NodeId.{NodeId}
 use Rattle.lt_format.specs.declared.geometry.Geometry.{Geometry}
 use Rattle.lt_format.specs.Trie.{Node, Trie, node_cmp, node_at, named, node_extents, empty_node}

@@ -13,7 +13,7 @@ use Rattle.lt_tables.specs.Placement.{columns, placement_of}
 use Rattle.lt_tables.specs.Table.{bucket_in, IsPlaced, newest, newest_of}
 use Rattle.lt_tables.proofs.NewestLaws.{newest_of-newest}
 use Rattle.lt_tables.proofs.CoverLaws.{covers-filter_block}
-use Rattle.lt_tables.proofs.FitLaws.{all_weaker}
+use Rattle.lt_tables.proofs.ListLaws.{all_weaker}
 use Rattle.lt_format.specs.declared.node_id.NodeId.{NodeId}
 use Rattle.lt_format.specs.declared.geometry.Geometry.{Geometry}
 use Rattle.lt_format.specs.Layout.{extent_block}

@@ -50,7 +50,7 @@ piles_versions key g image (x ∷ tables) (p ∷ parts) r zip =
     ∙ sym (filter-append (λ (v : Item). same_bytes v.key key) p (flat_map (λ p. p) parts))
 
 -- no key twice
-none_twice : (items : List Item) → ((key : List ℕ) → length (versions_of key items) ≤ 1) → has_two_versions items ≡ false
+pub none_twice : (items : List Item) → ((key : List ℕ) → length (versions_of key items) ≤ 1) → has_two_versions items ≡ false
 none_twice [] h = refl
 none_twice (v ∷ vs) h = both (list_any (λ (w : Item). same_bytes w.key v.key) vs) (has_two_versions vs) (alone vs (first (h v.key))) (none_twice vs (λ key. rest (same_bytes v.key key) (versions_of key vs) (h key)))
   where

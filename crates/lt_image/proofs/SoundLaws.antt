@@ -9,10 +9,10 @@ use Rattle.lt_terms.specs.Items.{Item, value_at, after_items}
 use Rattle.lt_tables.specs.Bucket.{items_on}
 use Rattle.lt_tables.specs.Placement.{columns}
 use Rattle.lt_tables.specs.Table.{table_items, newest, newest_of, value_of}
-use Rattle.lt_tables.proofs.FitLaws.{all_weaker}
 use Rattle.std.specs.Option.{option_or}
 use Rattle.lt_tables.proofs.VersionLaws.{newest_value, get_after_items}
 use Rattle.lt_tables.proofs.NewestLaws.{newest_of-append}
+use Rattle.lt_tables.proofs.ListLaws.{all_weaker}
 use Rattle.lt_format.specs.declared.node_id.NodeId.{NodeId}
 use Rattle.lt_format.specs.declared.geometry.Geometry.{Geometry}
 use Rattle.lt_format.specs.Layout.{extent_block}

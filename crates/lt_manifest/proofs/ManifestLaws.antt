@@ -21,6 +21,7 @@ use Rattle.lt_node.specs.View.{TrieView}
 use Rattle.lt_device.specs.Moments.{ConfinedTo, MayLeave, Leaves}
 use Rattle.lt_manifest.specs.Promise.{HasNew, HasOldOrNew, IsKept, IsHeld, named_by}
 use Rattle.lt_format.specs.Snapshot.{Names, fresh}
+use Rattle.lt_format.proofs.RegionLaws.{geometry-deep}
 use Rattle.lt_manifest.specs.Written.{HasArea, HasSelected, InArea, page_of, page_count}
 use Rattle.lt_manifest.proofs.CommitLaws.{IsNext, area-stays, area-selected, committed, other_written, selector_written, selects, still_old}
 use Rattle.lt_manifest.proofs.ReadingLaws.{few_extents}
@@ -52,9 +53,6 @@ log_area-small (rewrite node tables groups) old new small moves =
     let same : new.log_area ≡ old.log_area = eqb-true _ _ (and_parts (new.log_area == old.log_area) (new.writes == old.writes) moves).0 in
     omega arith
 
-levels_least : (g : Geometry) → is_geometry g ≡ true → 2 ≤ g.levels
-levels_least g valid = leb-true 2 g.levels (and_parts (nat_le 2 g.levels) (nat_le g.levels 5) (and_parts _ (nat_le 1 g.slots) (and_parts _ (nat_le g.slots 512) valid).0).0).0
-
 -- the manifest after a change that may be committed
 pub next_stands : (named : Named) (blocks : ℕ) (change : Change) (header : Header) → IsKept named → IsTrue (extents_stand named.geometry blocks named.manifest.header.extents) → IsTrue (may_commit named.geometry.levels named.manifest change header) → header.writes < 2 ^ 64
     → IsManifest named.geometry blocks (after_commit named.manifest change header)
@@ -63,7 +61,7 @@ next_stands named blocks change header kept stands may writes =
     let b = and_parts _ (header.extents == named.manifest.header.extents) c.0 in
     let a = and_parts (fits named.geometry.levels named.manifest.trie change) (all_below named.manifest.header.extents (new_extents change)) b.0 in
     let same : header.extents ≡ named.manifest.header.extents = eqb-true _ _ b.1 in
-    let trie : IsTrie named.geometry.levels named.manifest.header.extents (after_change named.manifest.trie change) = after_change-trie named.geometry.levels named.manifest.header.extents named.manifest.trie change (levels_least named.geometry kept.geometry) kept.trie a.0 a.1 in
+    let trie : IsTrie named.geometry.levels named.manifest.header.extents (after_change named.manifest.trie change) = after_change-trie named.geometry.levels named.manifest.header.extents named.manifest.trie change (geometry-deep named.geometry kept.geometry) kept.trie a.0 a.1 in
     record {
       area = log_area-small change named.manifest.header header kept.log_area c.1;
       extents = subst (λ e. IsTrue (extents_stand named.geometry blocks e)) (sym same) stands;

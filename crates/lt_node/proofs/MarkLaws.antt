@@ -8,13 +8,14 @@ use Rattle.std.proofs.lemmas.List.Folds.{list_all-append}
 use Rattle.std.proofs.lemmas.Grind.{flat_map-append}
 use Rattle.std.proofs.Math.Bool.{and_assoc, and-true}
 use Rattle.lt_terms.specs.Bytes.{is_in}
+use Rattle.lt_terms.proofs.AmongLaws.{in_append, in_last}
 use Rattle.lt_format.specs.declared.node_id.NodeId.{NodeId}
 use Rattle.lt_format.specs.Trie.{Node, Trie, node_extents, named, all_distinct, all_below}
 use Rattle.lt_format.specs.Changes.{ChildChange, are_new, given_extents}
 use Rattle.lt_node.specs.declared.change.ChildChange.{ChildChange as Child}
 use Rattle.lt_node.specs.Changing.{child_of, freed_groups}
 use Rattle.lt_node.specs.Marks.{AreMarks, are_fresh, TellsNew}
-use Rattle.lt_tables.proofs.FilterLaws.{in_append, eqb_sym}
+use Rattle.lt_tables.proofs.FilterLaws.{eqb_sym}
 
 or_none : (a b : Bool) → b ≡ false → (a || b) ≡ a
 or_none true b h = refl
@@ -22,15 +23,12 @@ or_none false b h = h
 
 -- ---- one number is marked
 
-seen_here : (x : ℕ) (seen : List ℕ) → is_in x (seen ++ x ∷ []) ≡ true
-seen_here x seen = in_append x seen (x ∷ []) ∙ or_right (is_in x seen) (is_in x (x ∷ [])) (ap (λ b. b || false) (eq-eqb x x refl))
-
 seen_else : (x y : ℕ) (seen : List ℕ) → x ≢ y → is_in x (seen ++ y ∷ []) ≡ is_in x seen
 seen_else x y seen apart = in_append x seen (y ∷ []) ∙ or_none (is_in x seen) (is_in x (y ∷ [])) (ap (λ b. b || false) (ne_eqb y x (λ e. apart (sym e))))
 
 pub marks_one : (flags : List Bool) (seen : List ℕ) (number : ℕ) → AreMarks flags seen → number < length flags → AreMarks (set flags number true) (seen ++ number ∷ [])
 marks_one flags seen number are within x below = ⊎_elim
-    (λ (same : x ≡ number). subst (λ y. get_or (set flags number true) y false ≡ is_in y (seen ++ number ∷ [])) (sym same) (get_or-set_same flags number true false within ∙ sym (seen_here number seen)))
+    (λ (same : x ≡ number). subst (λ y. get_or (set flags number true) y false ≡ is_in y (seen ++ number ∷ [])) (sym same) (get_or-set_same flags number true false within ∙ sym (in_last number seen)))
     (λ (other : x ≢ number). get_or-set_other flags number x true false other ∙ are x (omega (arith, length-set flags number true)) ∙ sym (seen_else x number seen other))
     (cases_eq x number)
 

@@ -80,7 +80,8 @@ none_found p (x ∷ xs) h = by_test (p x) refl h (none_found p xs)
     by_test true e h ih = cc
     by_test false e h ih = (e, ih h)
 
-none_either : (a b : Option (NodeId × Node)) → option_or a b ≡ None → (a ≡ None) × (b ≡ None)
+-- where neither has one
+pub none_either : (a b : Option (NodeId × Node)) → option_or a b ≡ None → (a ≡ None) × (b ≡ None)
 none_either None b h = (refl, h)
 none_either (Some x) b h = cc
 

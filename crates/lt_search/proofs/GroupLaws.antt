@@ -11,9 +11,10 @@ use Rattle.lt_terms.specs.Bytes.{Image, block_at, is_in}
 use Rattle.lt_terms.specs.Causes.{CountsOne}
 use Rattle.lt_terms.specs.Hashes.{home_column}
 use Rattle.lt_terms.specs.Items.{Item}
+use Rattle.lt_terms.proofs.AmongLaws.{in_take, in_drop}
 use Rattle.lt_device.specs.Reads.{CountsAtMost}
 use Rattle.lt_tables.specs.Filter.{covers}
-use Rattle.lt_tables.proofs.ListLaws.{all_filter, all_join}
+use Rattle.lt_tables.proofs.ListLaws.{all_filter, all_join, all_weaker}
 use Rattle.lt_format.specs.declared.geometry.Geometry.{Geometry}
 use Rattle.lt_format.specs.declared.node_id.NodeId.{NodeId}
 use Rattle.lt_format.specs.Layout.{extent_block}
@@ -72,10 +73,6 @@ all_map : (f : Stop → ℕ) (P : ℕ → Type 0) (ss : List Stop) → AllByRecu
 all_map f P [] all = tt
 all_map f P (s ∷ ss) all = (all.0, all_map f P ss all.1)
 
-all_weaker : (P Q : Stop → Type 0) → ((s : Stop) → P s → Q s) → (ss : List Stop) → AllByRecursion P ss → AllByRecursion Q ss
-all_weaker P Q f [] all = tt
-all_weaker P Q f (s ∷ ss) all = (f s all.0, all_weaker P Q f ss all.1)
-
 groups_of : ℕ → List Stop → List ℕ
 groups_of levels ss = map (λ (s : Stop). s.index / 64) (filter (λ (s : Stop). is_last_level levels s.node) ss)
 
@@ -96,7 +93,7 @@ groups-more levels v done more high low some =
     let group = λ (s : Stop). s.index / 64 in
     let joined : groups_of levels (done ++ more) ≡ groups_of levels done ++ groups_of levels more = ap (map group) (filter-append last done more) ∙ map-append group (filter last done) (filter last more) in
     let highs = all_map group (λ x. v < x) (filter last done) (all_filter (λ s. v < s.index / 64) last done high) in
-    let lows = all_map group (λ x. x ≤ v) (filter last more) (all_filter (λ s. s.index / 64 ≤ v) last more (all_weaker (IsUpTo levels v) (λ s. s.index / 64 ≤ v) (λ s h. h.0) more low)) in
+    let lows = all_map group (λ x. x ≤ v) (filter last more) (all_filter (λ s. s.index / 64 ≤ v) last more (all_weaker (IsUpTo levels v) (λ (s : Stop). s.index / 64 ≤ v) (λ s h. h.0) more low)) in
     let apart = ap distinct_count joined ∙ distinct-apart v (groups_of levels done) (groups_of levels more) highs lows in
     let one = distinct-some (groups_of levels more) (kept-some levels v more low some) in
     omega (arith, apart, one)
@@ -261,29 +258,11 @@ group-count test tables part groups i j step within is =
 
 -- ---- a number among the first or last of a list
 
-in-take : (x n : ℕ) (xs : List ℕ) → is_in x (take n xs) ≡ true → is_in x xs ≡ true
-in-take x zero xs there = cc
-in-take x (suc n) [] there = there
-in-take x (suc n) (y ∷ xs) there = by_head (y == x) there (in-take x n xs)
-  where
-    by_head : (b : Bool) → (b || is_in x (take n xs)) ≡ true → (is_in x (take n xs) ≡ true → is_in x xs ≡ true) → (b || is_in x xs) ≡ true
-    by_head true h rest = refl
-    by_head false h rest = rest h
-
-in-drop : (x n : ℕ) (xs : List ℕ) → is_in x (drop n xs) ≡ true → is_in x xs ≡ true
-in-drop x zero xs there = there
-in-drop x (suc n) [] there = there
-in-drop x (suc n) (y ∷ xs) there = by_head (y == x) (in-drop x n xs there)
-  where
-    by_head : (b : Bool) → is_in x xs ≡ true → (b || is_in x xs) ≡ true
-    by_head true rest = refl
-    by_head false rest = rest
-
 -- a bucket of a group's table is one of the pile's
 pub part-bucket : (g : Geometry) (tables part : List ℕ) (j block : ℕ) → part ≡ take 64 (drop (64 * j) tables) → IsBucketOf g part block → IsBucketOf g tables block
 part-bucket g tables part j block is b = record {
   number = b.number;
-  among = in-drop b.number (64 * j) tables (in-take b.number 64 (drop (64 * j) tables) (ap (is_in b.number) (sym is) ∙ b.among));
+  among = in_drop b.number (64 * j) tables (in_take b.number 64 (drop (64 * j) tables) (ap (is_in b.number) (sym is) ∙ b.among));
   column = b.column;
   within = b.within;
   is = b.is;

@@ -6,8 +6,8 @@ use Rattle.std.proofs.lemmas.Bool.{cases_eq, eq-eqb, ne_eqb}
 use Rattle.std.proofs.lemmas.List.{get_or-set_other, get_or-set_same, length-append, take-append-drop, take_more}
 use Rattle.std.proofs.lemmas.List.Concat.{flat_map-append}
 use Rattle.lt_terms.specs.Bytes.{Image, is_in}
-use Rattle.lt_tables.proofs.FitLaws.{all_weaker}
-use Rattle.lt_tables.proofs.ListLaws.{all_join, all_left, all_right}
+use Rattle.lt_terms.proofs.AmongLaws.{in_last}
+use Rattle.lt_tables.proofs.ListLaws.{all_join, all_left, all_right, all_weaker}
 use Rattle.lt_format.specs.declared.geometry.Geometry.{Geometry}
 use Rattle.lt_format.specs.declared.node_id.NodeId.{NodeId}
 use Rattle.lt_format.specs.Changes.{after_change, appended, flush}
@@ -25,14 +25,6 @@ none_at (suc n) (suc x) = none_at n x
 -- none is kept at first
 pub keeps-none : (g : Geometry) (kept : List (Option (List ℕ))) (n : ℕ) (image : Image) → kept ≡ replicate n None → KeepsExactly g kept [] image
 keeps-none g kept n image is = subst (λ (f : List (Option (List ℕ))). KeepsExactly g f [] image) (sym is) (record { each = tt; others = λ x out. none_at n x })
-
-last-in : (x : ℕ) (xs : List ℕ) → is_in x (xs ++ x ∷ []) ≡ true
-last-in x [] = ap (λ b. b || false) (eq-eqb x x refl)
-last-in x (y ∷ xs) = by_head (y == x) (last-in x xs)
-  where
-    by_head : (b : Bool) → is_in x (xs ++ x ∷ []) ≡ true → (b || is_in x (xs ++ x ∷ [])) ≡ true
-    by_head true rest = refl
-    by_head false rest = rest
 
 front-out : (x : ℕ) (xs ys : List ℕ) → is_in x (xs ++ ys) ≡ false → is_in x xs ≡ false
 front-out x [] ys out = refl
@@ -54,7 +46,7 @@ keeps-more g kept tables x page image keeps small read =
           (λ (other : y ≡ x → ⊥). get_or-set_other kept x y (Some page) None other ∙ h)
           (cases_eq y x)) tables keeps.each) (here, tt);
       others = λ y out.
-          let other : y ≢ x = λ same. true≢false (sym (last-in x tables) ∙ ap (λ n. is_in n (tables ++ x ∷ [])) (sym same) ∙ out) in
+          let other : y ≢ x = λ same. true≢false (sym (in_last x tables) ∙ ap (λ n. is_in n (tables ++ x ∷ [])) (sym same) ∙ out) in
           get_or-set_other kept x y (Some page) None other ∙ keeps.others y (front-out y tables (x ∷ []) out);
     }
 

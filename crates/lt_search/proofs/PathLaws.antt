@@ -9,7 +9,7 @@ use Rattle.std.proofs.lemmas.List.Sums.{sum_by-append}
 use Rattle.lt_terms.specs.Bytes.{Image}
 use Rattle.lt_terms.specs.Items.{Item}
 use Rattle.lt_device.specs.Reads.{CountsAtMost}
-use Rattle.lt_tables.proofs.ListLaws.{all_join, all_left, all_right}
+use Rattle.lt_tables.proofs.ListLaws.{all_join, all_left, all_right, all_weaker}
 use Rattle.lt_format.specs.declared.geometry.Geometry.{Geometry}
 use Rattle.lt_format.specs.declared.node_id.NodeId.{NodeId}
 use Rattle.lt_format.specs.Trie.{Node, Trie, groups_for, is_last_level, named, node_at, node_extents, path, IsTrie}
@@ -38,13 +38,9 @@ inner-stops levels (suc n) trie key above =
     (all_join (λ s. is_last_level levels s.node ≡ false) (stops n trie key) (pile_stops (path key n) 0 (node_at trie (path key n)).tables) (inner-stops levels n trie key (omega arith))
     (stops-all (λ s. is_last_level levels s.node ≡ false) (path key n) 0 (node_at trie (path key n)).tables (λ j below. other)))
 
-all_of : (P Q : Stop → Type 0) → ((s : Stop) → P s → Q s) → (ss : List Stop) → AllByRecursion P ss → AllByRecursion Q ss
-all_of P Q f [] all = tt
-all_of P Q f (s ∷ ss) all = (f s all.0, all_of P Q f ss all.1)
-
 inner-asks : (g : Geometry) (kept : List (Option (List ℕ))) (image : Image) (trie : Trie) (key : List ℕ) (n : ℕ) → n < g.levels → AllByRecursion (λ s. asks_kept kept key s ≡ is_asked g kept image trie key s) (stops n trie key)
 inner-asks g kept image trie key n above =
-    all_of (λ s. is_last_level g.levels s.node ≡ false) (λ s. asks_kept kept key s ≡ is_asked g kept image trie key s)
+    all_weaker (λ (s : Stop). is_last_level g.levels s.node ≡ false) (λ (s : Stop). asks_kept kept key s ≡ is_asked g kept image trie key s)
     (λ s other. sym (ap (λ (b : Bool). cond b (asks_group g (node_at trie s.node).groups image key s) (asks_kept kept key s)) other))
     (stops n trie key) (inner-stops g.levels n trie key above)
 

@@ -17,6 +17,7 @@ use Rattle.lt_search.specs.Reads.{bucket_reads, look_reads, path_reads}
 use Rattle.lt_search.specs.Searched.{Searched}
 use Rattle.lt_search.specs.Seen.{IsSeen, before_older, is_told, met_along, seen_along, seen_at, seen_in}
 use Rattle.lt_search.proofs.StopLaws.{all_up_to}
+use Rattle.lt_tables.proofs.ListLaws.{all_weaker}
 
 -- ---- counts of reads
 
@@ -96,10 +97,6 @@ same-sum f h (s ∷ ss) all =
     ∙ ap (λ n. n + sum_by f ss) all.0
     ∙ ap (λ n. h s + n) (same-sum f h ss all.1)
     ∙ sym (sum_by-cons h s ss)
-
-all_of : (P Q : Stop → Type 0) → ((s : Stop) → P s → Q s) → (ss : List Stop) → AllByRecursion P ss → AllByRecursion Q ss
-all_of P Q f [] all = tt
-all_of P Q f (s ∷ ss) all = (f s all.0, all_of P Q f ss all.1)
 
 -- ---- what was seen so far, and what was read
 
@@ -242,8 +239,8 @@ module _ (a b : Stop → Bool) (g : Geometry) (image : Image) (key : List ℕ) w
 
   pub same-buckets : (ss : List Stop) → AllByRecursion (λ s. a s ≡ b s) ss → bucket_reads a g image key ss ≡ bucket_reads b g image key ss
   same-buckets ss all =
-      let once = same-sum (λ (s : Stop). cond (a s) 1 0) (λ (s : Stop). cond (b s) 1 0) ss (all_of (λ s. a s ≡ b s) (λ s. cond (a s) 1 0 ≡ cond (b s) 1 0) (λ s same. ap (λ (x : Bool). cond x 1 0) same) ss all) in
-      let twice = same-sum (λ (s : Stop). cond (a s && is_sent g image key s) 1 0) (λ (s : Stop). cond (b s && is_sent g image key s) 1 0) ss (all_of (λ s. a s ≡ b s) (λ s. cond (a s && is_sent g image key s) 1 0 ≡ cond (b s && is_sent g image key s) 1 0) (λ s same. ap (λ (x : Bool). cond (x && is_sent g image key s) 1 0) same) ss all) in
+      let once = same-sum (λ (s : Stop). cond (a s) 1 0) (λ (s : Stop). cond (b s) 1 0) ss (all_weaker (λ (s : Stop). a s ≡ b s) (λ (s : Stop). cond (a s) 1 0 ≡ cond (b s) 1 0) (λ s same. ap (λ (x : Bool). cond x 1 0) same) ss all) in
+      let twice = same-sum (λ (s : Stop). cond (a s && is_sent g image key s) 1 0) (λ (s : Stop). cond (b s && is_sent g image key s) 1 0) ss (all_weaker (λ (s : Stop). a s ≡ b s) (λ (s : Stop). cond (a s && is_sent g image key s) 1 0 ≡ cond (b s && is_sent g image key s) 1 0) (λ s same. ap (λ (x : Bool). cond (x && is_sent g image key s) 1 0) same) ss all) in
       omega (arith, once, twice)
 
   buckets_met : (ss : List Stop) → AllByRecursion (λ s. a s ≡ b s) ss → bucket_reads a g image key (met_along a g image key ss) ≡ bucket_reads b g image key (met_along b g image key ss)

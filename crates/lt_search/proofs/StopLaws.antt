@@ -9,6 +9,7 @@ use Rattle.lt_format.specs.declared.node_id.NodeId.{NodeId}
 use Rattle.lt_format.specs.Trie.{Trie, path, node_at}
 use Rattle.lt_image.specs.Bound.{up_to_first}
 use Rattle.lt_image.specs.Versions.{Stop, stops, stops_of}
+use Rattle.lt_image.proofs.PathLaws.{range_more}
 use Rattle.lt_search.specs.Seen.{pile_stops}
 
 -- ---- a pile
@@ -58,12 +59,8 @@ stops-all P id k (x ∷ xs) each =
 
 -- ---- the levels
 
-range-more : (a n : ℕ) → range_with_len a (suc n) ≡ range_with_len a n ++ (a + n) ∷ []
-range-more a zero = let e : a ≡ a + 0 = omega arith in ap (λ x. x ∷ []) e
-range-more a (suc n) = let e : (a + 1) + n ≡ a + suc n = omega arith in ap (λ xs. a ∷ xs) (range-more (a + 1) n ∙ ap (λ x. range_with_len (a + 1) n ++ x ∷ []) e)
-
 pub levels-more : (n : ℕ) → range_with_len 0 (suc n) ≡ range_with_len 0 n ++ n ∷ []
-levels-more n = let e : 0 + n ≡ n = omega arith in range-more 0 n ∙ ap (λ x. range_with_len 0 n ++ x ∷ []) e
+levels-more n = let e : 0 + n ≡ n = omega arith in range_more 0 n ∙ ap (λ x. range_with_len 0 n ++ x ∷ []) e
 
 -- the path over one level more
 pub path-more : (n : ℕ) (trie : Trie) (key : List ℕ) → stops (suc n) trie key ≡ stops n trie key ++ stops_of (path key n) (node_at trie (path key n))

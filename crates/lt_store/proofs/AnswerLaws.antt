@@ -10,10 +10,10 @@ use Rattle.lt_language.specs.Machine.{State}
 use Rattle.lt_device.specs.State as told
 use Rattle.lt_device.specs.Reads.{CountsAtMost}
 use Rattle.lt_tables.specs.Table.{newest_of, value_of, is_put}
-use Rattle.lt_tables.proofs.FitLaws.{all_weaker}
 use Rattle.lt_tables.proofs.RankLaws.{newest_or}
 use Rattle.lt_tables.proofs.NewestLaws.{newest_of-append}
 use Rattle.lt_tables.proofs.VersionLaws.{get_versions}
+use Rattle.lt_tables.proofs.ListLaws.{all_weaker}
 use Rattle.lt_format.specs.declared.geometry.Geometry.{Geometry}
 use Rattle.lt_format.specs.Log.{items_in}
 use Rattle.lt_format.specs.Layout.{extent_block}

@@ -5,6 +5,7 @@ use Rattle.std.proofs.lemmas.List.{get_or-set_same, get_or-set_other}
 use Rattle.std.proofs.lemmas.Bool.{cases_eq, true≢false}
 use Rattle.lt_terms.specs.Bytes.{Image, is_in}
 use Rattle.lt_terms.specs.Items.{Item}
+use Rattle.lt_terms.proofs.AmongLaws.{in_at}
 use Rattle.lt_device.specs.State.{State, SameOutside}
 use Rattle.lt_device.specs.Moments.{ConfinedTo, ShowsSameOutside}
 use Rattle.lt_device.proofs.Runs.{confined_within}
@@ -18,7 +19,7 @@ use Rattle.lt_format.specs.Trie.{all_distinct}
 use Rattle.lt_htable.specs.Building.{InExtent}
 use Rattle.lt_image.specs.Versions.{extent_in}
 use Rattle.lt_store.specs.Building.{InExtents, HasTable}
-use Rattle.lt_store.proofs.NumberLaws.{is_in-at, apart-at, extents-apart}
+use Rattle.lt_store.proofs.NumberLaws.{apart-at, extents-apart}
 use Rattle.lt_device.proofs.Shows.{shows-joins}
 
 -- ---- what a table rests on
@@ -57,7 +58,7 @@ pub record IsWriting (first : ℕ) (old new : State) : Type 0 where
 inside_all : (g : Geometry) (numbers : List ℕ) (i first : ℕ) → i < length numbers → first ≡ extent_block g (get_or numbers i 0) → (n : ℕ) → InExtent first n → InExtents g numbers n
 inside_all g numbers i first below is n inside = record {
   number = get_or numbers i 0;
-  among = is_in-at numbers i below;
+  among = in_at numbers i 0 below;
   from = omega (arith, inside.0, is);
   to = omega (arith, inside.1, is);
 }
@@ -106,7 +107,7 @@ AreBuilt-more g start kept after old mid new numbers tables i x first items page
           (built.each before middle.0 was middle.1 k lower))
           (cases_eq k i));
       others = λ y none.
-          let differ : y ≢ x = λ same. true≢false (sym (ap (λ n. is_in n numbers) (same ∙ x_is) ∙ is_in-at numbers i below) ∙ none) in
+          let differ : y ≢ x = λ same. true≢false (sym (ap (λ n. is_in n numbers) (same ∙ x_is) ∙ in_at numbers i 0 below) ∙ none) in
           ap (λ f. get_or f y None) after_is ∙ get_or-set_other kept x y (Some page) None differ ∙ built.others y none;
       confined = within.0;
       shows = within.1;

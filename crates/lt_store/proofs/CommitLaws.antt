@@ -10,6 +10,7 @@ use Rattle.lt_device.proofs.Runs.{begins}
 use Rattle.lt_device.specs.Moments.{MayLeave, Leaves, ConfinedTo, ShowsSameOutside, UnsyncedIn}
 use Rattle.lt_language.specs.Machine.{State}
 use Rattle.lt_format.specs.Log.{items_in, log_fits}
+use Rattle.lt_format.proofs.RegionLaws.{geometry-deep}
 use Rattle.lt_redo.specs.Slots.{HasLog, InSlot}
 use Rattle.lt_redo.specs.LogState.{AnyMoment, Committed}
 use Rattle.lt_image.specs.Standing.{after_writes}
@@ -23,13 +24,6 @@ use Rattle.lt_store.proofs.GroupLaws.{group-open, group-survives, group-whole, i
 use Rattle.lt_store.proofs.MomentLaws.{open-same}
 use Rattle.lt_store.proofs.SameLaws.{same-log}
 use Rattle.lt_redo.proofs.OpeningLaws.{items_in-push}
-
--- a geometry has two levels or more
-pub geometry-deep : (g : Geometry) → is_geometry g ≡ true → 2 ≤ g.levels
-geometry-deep g valid =
-    let most = and_parts (nat_le 2 g.levels && nat_le g.levels 5 && nat_le 1 g.slots) (nat_le g.slots 512) valid in
-    let some = and_parts (nat_le 2 g.levels && nat_le g.levels 5) (nat_le 1 g.slots) most.0 in
-    leb-true 2 g.levels (and_parts (nat_le 2 g.levels) (nat_le g.levels 5) some.0).0
 
 -- what a kept store says of its view
 pub kept-fits : (v : StoreView) (d : State) (s : told.State) (taken : List Bool) (filters writes : ℕ) → IsOpen v d s → IsKept v.named v.log v.memory taken filters writes v.work → Fits v

@@ -23,6 +23,7 @@ use Rattle.lt_image.specs.Versions.{free_extents, Opened, open_image}
 use Rattle.lt_image.proofs.OpenLaws.{is-opens}
 use Rattle.lt_image.proofs.StandLaws.{stands-as}
 use Rattle.lt_work.specs.Work.{WorkView, reserved_by, reserved_for}
+use Rattle.lt_work.proofs.StepLaws.{taken-named}
 use Rattle.lt_store.specs.Kept.{IsKept, in_use}
 use Rattle.lt_store.specs.Open.{IsOpen, StoreView}
 use Rattle.lt_store.specs.Taking.{is_due}
@@ -34,38 +35,6 @@ use Rattle.lt_image.proofs.FewLaws.{full-few}
 use Rattle.lt_image.specs.Pressure.{flush_tables}
 
 -- ---- what is free and what is named are all extents
-
-others-stay : (n x : ℕ) (xs : List ℕ) → x ≢ n → times x xs ≤ times x (without n xs)
-others-stay n x [] differ = omega arith
-others-stay n x (y ∷ ys) differ = by_head (y == n) refl (others-stay n x ys differ)
-  where
-    by_head : (b : Bool) → (y == n) ≡ b → times x ys ≤ times x (without n ys) → cond (y == x) 1 0 + times x ys ≤ times x (cond (not b) (y ∷ without n ys) (without n ys))
-    by_head true is rest = let other : (y == x) ≡ false = ne_eqb y x (λ same. differ (sym same ∙ eqb-true y n is)) in rw other (omega arith)
-    by_head false is rest = omega arith
-
--- where each extent that is taken is named
-taken-named : (taken : List Bool) (k : ℕ) (xs : List ℕ) → ((i : ℕ) → i < length taken → is_free taken i ≡ false → 1 ≤ times (k + i) xs) → length taken ≤ length xs + free_count taken
-taken-named [] k xs each = omega arith
-taken-named (true ∷ taken) k xs each =
-    let first : k + 0 ≡ k = omega arith in
-    let here : 1 ≤ times k xs = subst (λ x. 1 ≤ times x xs) first (each 0 (omega arith) refl) in
-    let rest = taken-named taken (k + 1) (without k xs) (λ i below is. later i (each (suc i) (omega arith) is)) in
-    let sum = sum_by-cons (λ b. cond (not b) 1 0) true taken in
-    omega (arith, here, rest, length-without k xs, sum)
-  where
-    later : (i : ℕ) → 1 ≤ times (k + suc i) xs → 1 ≤ times (k + 1 + i) (without k xs)
-    later i there =
-        let e : k + suc i ≡ k + 1 + i = omega arith in
-        let more : 1 ≤ times (k + 1 + i) xs = subst (λ x. 1 ≤ times x xs) e there in
-        let stay = others-stay k (k + 1 + i) xs (λ same. absurd (omega arith)) in
-        omega (arith, more, stay)
-taken-named (false ∷ taken) k xs each =
-    let rest = taken-named taken (k + 1) xs (λ i below is. later i (each (suc i) (omega arith) is)) in
-    let sum = sum_by-cons (λ b. cond (not b) 1 0) false taken in
-    omega (arith, rest, sum)
-  where
-    later : (i : ℕ) → 1 ≤ times (k + suc i) xs → 1 ≤ times (k + 1 + i) xs
-    later i there = let e : k + suc i ≡ k + 1 + i = omega arith in subst (λ x. 1 ≤ times x xs) e there
 
 -- the extents that the manifest does not name are the free ones and those that the job in flight reserved
 pub free-all : (n : Named) (log : LogState) (memory : List Item) (taken : List Bool) (filters writes : ℕ) (work : WorkView) → IsKept n log memory taken filters writes work → free_count taken + length (reserved_by work) ≡ free_extents n

@@ -3,16 +3,11 @@ use Rattle.std.proofs.Common.{◌≡◌, ◌≢◌, ℕ, zero, suc, ◌+◌, ◌
 use Rattle.std.specs.Prelude.{◌==◌}
 use Rattle.std.proofs.lemmas.Bool.{and_parts, true≢false, not-true, eq-eqb, or_left, or_right}
 use Rattle.lt_terms.specs.Bytes.{is_in}
+use Rattle.lt_terms.proofs.AmongLaws.{in_at}
 use Rattle.lt_format.specs.declared.geometry.Geometry.{Geometry}
 use Rattle.lt_format.specs.Layout.{extent_block}
 use Rattle.lt_format.specs.Trie.{all_distinct}
 use Rattle.lt_htable.specs.Building.{InExtent}
-
--- each number of a list stands in it
-pub is_in-at : (xs : List ℕ) (i : ℕ) → i < length xs → is_in (get_or xs i 0) xs ≡ true
-is_in-at [] i below = absurd (omega arith)
-is_in-at (x ∷ xs) zero below = or_left (x == x) (is_in x xs) (eq-eqb x x refl)
-is_in-at (x ∷ xs) (suc i) below = or_right (x == get_or xs i 0) (is_in (get_or xs i 0) xs) (is_in-at xs i (omega arith))
 
 -- in a list without repetition a number stands at one place
 pub apart-at : (xs : List ℕ) (k i : ℕ) → all_distinct xs ≡ true → k < i → i < length xs → get_or xs k 0 ≢ get_or xs i 0
@@ -20,7 +15,7 @@ apart-at [] k i distinct less below same = absurd (omega arith)
 apart-at (x ∷ xs) k zero distinct less below same = absurd (omega arith)
 apart-at (x ∷ xs) zero (suc i) distinct less below same =
     let parts = and_parts (not (is_in x xs)) (all_distinct xs) distinct in
-    let here : is_in x xs ≡ true = subst (λ n. is_in n xs ≡ true) (sym same) (is_in-at xs i (omega arith)) in
+    let here : is_in x xs ≡ true = subst (λ n. is_in n xs ≡ true) (sym same) (in_at xs i 0 (omega arith)) in
     true≢false (sym here ∙ not-true _ parts.0)
 apart-at (x ∷ xs) (suc k) (suc i) distinct less below same =
     let parts = and_parts (not (is_in x xs)) (all_distinct xs) distinct in

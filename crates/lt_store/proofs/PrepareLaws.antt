@@ -11,6 +11,7 @@ use Rattle.lt_device.proofs.Runs.{joins}
 use Rattle.lt_language.specs.Machine.{State}
 use Rattle.lt_tables.specs.Cut.{cut}
 use Rattle.lt_terms.specs.Bytes.{is_in}
+use Rattle.lt_terms.proofs.AmongLaws.{in_first, in_right}
 use Rattle.lt_tables.specs.Table.{newest}
 use Rattle.lt_format.specs.declared.geometry.Geometry.{Geometry}
 use Rattle.lt_format.specs.declared.header.Header.{Header}
@@ -30,19 +31,9 @@ use Rattle.lt_store.proofs.FlushLaws.{Fits, with_kept}
 
 -- ---- the change fits
 
-is_in-first : (x : ℕ) (xs : List ℕ) → is_in x (x ∷ xs) ≡ true
-is_in-first x xs = rw (eq-eqb x x refl) refl
-
-is_in-behind : (y x : ℕ) (xs : List ℕ) → is_in y xs ≡ true → is_in y (x ∷ xs) ≡ true
-is_in-behind y x xs there = rw there (right (x == y))
-  where
-    right : (a : Bool) → (a || true) ≡ true
-    right true = refl
-    right false = refl
-
 each-in : (test : ℕ → Bool) (xs : List ℕ) → ((x : ℕ) → is_in x xs ≡ true → test x ≡ true) → list_all test xs ≡ true
 each-in test [] each = refl
-each-in test (x ∷ xs) each = and_from (test x) (list_all test xs) (each x (is_in-first x xs)) (each-in test xs (λ y there. each y (is_in-behind y x xs there)))
+each-in test (x ∷ xs) each = and_from (test x) (list_all test xs) (each x (in_first x xs)) (each-in test xs (λ y there. each y (in_right y (x ∷ []) xs there)))
 
 pub free-below : (n : Named) (work : WorkView) (numbers : List ℕ) (limit : ℕ) → AreFree n work numbers → limit ≡ n.manifest.header.extents → all_below limit numbers ≡ true
 free-below n work numbers limit free is = each-in (λ x. nat_lt x limit) numbers (λ x there. lt-ltb x limit (let below = free.below x there in omega arith))

@@ -1,10 +1,11 @@
 -- Extents that a flush reserves, and the facts in memory after it.
 use Rattle.std.proofs.Common.{◌≡◌, ◌≢◌, ℕ, suc, ◌+◌, ◌<◌, ◌≤◌, ◌^◌, refl, sym, ap, subst, ◌∙◌, List, [], ◌∷◌, ◌++◌, length, get_or, Bool, true, false, not, ◌&&◌, ◌||◌, arith}
 use Rattle.std.specs.Prelude.{◌==◌, nat_le, nat_lt}
-use Rattle.std.proofs.lemmas.Bool.{eqb-true, true≢false, and_from, and_parts, leb-true, ltb-true, lt-ltb}
+use Rattle.std.proofs.lemmas.Bool.{eqb-true, true≢false, and_from, and_parts, leb-true, ltb-true, lt-ltb, not-true, or_parts}
 use Rattle.lt_terms.specs.Items.{Item, total_cost}
 use Rattle.lt_bucket.proofs.BucketPages.{count_small}
 use Rattle.lt_terms.specs.Bytes.{is_in}
+use Rattle.lt_terms.proofs.AmongLaws.{in_append, in_place}
 use Rattle.lt_alloc.specs.Extents.{is_free, Reserves}
 use Rattle.lt_format.specs.declared.header.Header.{Header}
 use Rattle.lt_format.specs.Changes.{flush, after_change}
@@ -13,56 +14,20 @@ use Rattle.lt_format.specs.Snapshot.{Named, after_commit, Manifest}
 use Rattle.lt_format.specs.Trie.{Trie, named, node_cmp, all_distinct}
 use Rattle.std.specs.FinMap.{is_sorted}
 use Rattle.lt_format.proofs.NamedLaws.{flush-times}
-use Rattle.lt_format.proofs.Numbers.{times, absent-times, times-absent}
+use Rattle.lt_format.proofs.Numbers.{times, absent-times, times-absent, pairs-distinct}
 use Rattle.lt_manifest.specs.Promise as opened
 use Rattle.lt_redo.specs.LogState.{LogState, other_area}
 use Rattle.lt_store.specs.Flushing.{AreFree, flushed_log}
 use Rattle.lt_work.specs.Work.{SuitsTrie, WorkView, flushed_work, reserved_by}
 use Rattle.lt_work.proofs.OutlastLaws.{alike-suits, flushed-suits}
 use Rattle.lt_format.specs.declared.geometry.Geometry.{Geometry}
-use Rattle.lt_store.proofs.CommitLaws.{geometry-deep}
+use Rattle.lt_format.proofs.RegionLaws.{geometry-deep}
 use Rattle.lt_store.specs.Kept.{IsKept, in_use}
 use Rattle.lt_alloc.proofs.StackLaws.{is_free-within}
 
 -- ---- numbers in a list
 
-later-place : (x y : ℕ) (ys : List ℕ) → (is_in x ys ≡ true → (i : ℕ) × (i < length ys) × (get_or ys i 0 ≡ x)) → (b : Bool) → (y == x) ≡ b → is_in x (y ∷ ys) ≡ true → (i : ℕ) × (i < length (y ∷ ys)) × (get_or (y ∷ ys) i 0 ≡ x)
-later-place x y ys rest true is there = (0, omega arith, eqb-true y x is)
-later-place x y ys rest false is there =
-    let later = rest (sym (ap (λ b. b || is_in x ys) is) ∙ there) in
-    let below = later.1 in
-    (suc later.0, omega (arith, below), later.2)
-
-pub is_in-place : (x : ℕ) (xs : List ℕ) → is_in x xs ≡ true → (i : ℕ) × (i < length xs) × (get_or xs i 0 ≡ x)
-is_in-place x [] there = absurd (true≢false (sym there))
-is_in-place x (y ∷ ys) there = later-place x y ys (is_in-place x ys) (y == x) refl there
-
-pub pairs-distinct : (xs : List ℕ) → ((i j : ℕ) → i < j → j < length xs → get_or xs i 0 ≢ get_or xs j 0) → all_distinct xs ≡ true
-pairs-distinct [] apart = refl
-pairs-distinct (x ∷ xs) apart = and_from (not (is_in x xs)) (all_distinct xs) (first (is_in x xs) refl) (pairs-distinct xs (λ i j less below. apart (suc i) (suc j) (omega arith) (omega arith)))
-  where
-    first : (b : Bool) → is_in x xs ≡ b → not (is_in x xs) ≡ true
-    first true is = let at = is_in-place x xs is in let below = at.1 in absurd (apart 0 (suc at.0) (omega arith) (omega (arith, below)) (sym at.2))
-    first false is = ap not is
-
--- a number of two lists is in the one or in the other
-pub is_in-append : (x : ℕ) (xs ys : List ℕ) → is_in x (xs ++ ys) ≡ (is_in x xs || is_in x ys)
-is_in-append x [] ys = refl
-is_in-append x (z ∷ xs) ys = ap (λ b. (z == x) || b) (is_in-append x xs ys) ∙ assoc (z == x) (is_in x xs) (is_in x ys)
-  where
-    assoc : (a b c : Bool) → (a || (b || c)) ≡ ((a || b) || c)
-    assoc true b c = refl
-    assoc false b c = refl
-
-or-none : (a b : Bool) → (a || b) ≡ false → (a ≡ false) × (b ≡ false)
-or-none true b is = absurd (true≢false is)
-or-none false b is = (refl, is)
-
 -- ---- what is reserved
-
-not_true : (b : Bool) → not b ≡ true → b ≡ false
-not_true true is = absurd (true≢false (sym is))
-not_true false is = refl
 
 module _ (n : Named) (log : LogState) (memory : List Item) (taken now : List Bool) (filters writes count : ℕ) (work : WorkView) (numbers : List ℕ) (k : IsKept n log memory taken filters writes work) (r : Reserves count taken now [] numbers) where
   pub reserved-len : length numbers ≡ count
@@ -70,20 +35,20 @@ module _ (n : Named) (log : LogState) (memory : List Item) (taken now : List Boo
 
   was_free : (x : ℕ) → is_in x numbers ≡ true → is_free taken x ≡ true
   was_free x there =
-      let at = is_in-place x r.numbers (subst (λ xs. is_in x xs ≡ true) r.appended there) in
+      let at = in_place x r.numbers (subst (λ xs. is_in x xs ≡ true) r.appended there) in
       subst (λ y. is_free taken y ≡ true) at.2 (r.were_free at.0 0 at.1)
 
   unused : (x : ℕ) → is_in x numbers ≡ true → is_in x (in_use n work) ≡ false
   unused x there =
       let free = was_free x there in
       let below : x < n.manifest.header.extents = let b = is_free-within taken x free in let size = k.taken_in_use.len in omega (arith, b, size) in
-      not_true (is_in x (in_use n work)) (sym (k.taken_in_use.free x below) ∙ free)
+      not-true (is_in x (in_use n work)) (sym (k.taken_in_use.free x below) ∙ free)
 
   pub reserved-free : AreFree n work numbers
   reserved-free = record {
     below = λ x there. let below = is_free-within taken x (was_free x there) in let size = k.taken_in_use.len in omega (arith, below, size);
-    unnamed = λ x there. (or-none (is_in x (named n.manifest.trie)) (is_in x (reserved_by work)) (sym (is_in-append x (named n.manifest.trie) (reserved_by work)) ∙ unused x there)).0;
-    unreserved = λ x there. (or-none (is_in x (named n.manifest.trie)) (is_in x (reserved_by work)) (sym (is_in-append x (named n.manifest.trie) (reserved_by work)) ∙ unused x there)).1;
+    unnamed = λ x there. (or_parts (is_in x (named n.manifest.trie)) (is_in x (reserved_by work)) (sym (in_append x (named n.manifest.trie) (reserved_by work)) ∙ unused x there)).0;
+    unreserved = λ x there. (or_parts (is_in x (named n.manifest.trie)) (is_in x (reserved_by work)) (sym (in_append x (named n.manifest.trie) (reserved_by work)) ∙ unused x there)).1;
   }
 
   pub reserved-distinct : all_distinct numbers ≡ true
@@ -174,10 +139,10 @@ flushed-kept n m log memory taken now filters writes count work numbers header k
             let within : x < n.manifest.header.extents = omega (arith, small, head_extents) in
             let there : is_in x (named m.manifest.trie) ≡ (is_in x (named n.manifest.trie) || is_in x numbers) = ap (λ (t : Trie). is_in x (named t)) trie ∙ named-flush n.manifest.trie numbers x k.manifest.trie.rising some in
             r.others_stay x ∙ ap (λ b. b && not (is_in x r.numbers)) (k.taken_in_use.free x within)
-            ∙ ap (λ b. not b && not (is_in x r.numbers)) (is_in-append x (named n.manifest.trie) (reserved_by work))
+            ∙ ap (λ b. not b && not (is_in x r.numbers)) (in_append x (named n.manifest.trie) (reserved_by work))
             ∙ ap (λ b. not (is_in x (named n.manifest.trie) || is_in x (reserved_by work)) && not b) (ap (is_in x) (sym r.appended))
             ∙ both (is_in x (named n.manifest.trie)) (is_in x (reserved_by work)) (is_in x numbers)
-            ∙ ap (λ b. not (b || is_in x (reserved_by work))) (sym there) ∙ ap not (sym (is_in-append x (named m.manifest.trie) (reserved_by work)));
+            ∙ ap (λ b. not (b || is_in x (reserved_by work))) (sym there) ∙ ap not (sym (in_append x (named m.manifest.trie) (reserved_by work)));
       };
       filters_len = filled ∙ sym head_extents;
     }

@@ -7,21 +7,10 @@ use Rattle.std.proofs.lemmas.Bool.{or_left, or_right}
 use Rattle.lt_terms.specs.Bytes.{same_bytes, is_in}
 use Rattle.lt_terms.specs.Items.{Item}
 use Rattle.lt_terms.specs.Hashes.{home_column, key_positions}
+use Rattle.lt_terms.proofs.AmongLaws.{in_left, in_right}
 use Rattle.lt_tables.specs.Filter.{is_set_in, home_positions, filter_block, covers}
 use Rattle.lt_tables.proofs.FilterLaws.{is_set_in-filter_block}
 use Rattle.lt_tables.proofs.HashLaws.{home_column-small, positions-small}
-
-in_left : (p : ℕ) (xs ys : List ℕ) → is_in p xs ≡ true → is_in p (xs ++ ys) ≡ true
-in_left p [] ys h = cc
-in_left p (x ∷ xs) ys h = step (x == p) h (in_left p xs ys)
-  where
-    step : (b : Bool) → (b || is_in p xs) ≡ true → (is_in p xs ≡ true → is_in p (xs ++ ys) ≡ true) → (b || is_in p (xs ++ ys)) ≡ true
-    step true h ih = refl
-    step false h ih = ih h
-
-in_right : (p : ℕ) (xs ys : List ℕ) → is_in p ys ≡ true → is_in p (xs ++ ys) ≡ true
-in_right p [] ys h = h
-in_right p (x ∷ xs) ys h = or_right (x == p) (is_in p (xs ++ ys)) (in_right p xs ys h)
 
 in_home : (key : List ℕ) (p : ℕ) (items : List Item) → list_any (λ (v : Item). same_bytes v.key key) items ≡ true → is_in p (key_positions key) ≡ true → is_in p (home_positions items (home_column key)) ≡ true
 in_home key p [] h q = cc

@@ -12,6 +12,7 @@ use Rattle.std.specs.Prelude.{◌==◌, ◌&&◌, ◌||◌}
 use Rattle.std.specs.Int.{bit_at}
 use Rattle.lt_terms.specs.Bytes.{IsBlock, zero_block, zeros, is_in}
 use Rattle.lt_terms.specs.Hashes.{home_column, key_positions}
+use Rattle.lt_terms.proofs.AmongLaws.{in_append}
 use Rattle.lt_tables.specs.Filter.{byte_of, bytes_of_bits, filter_of, is_set, is_set_in, home_positions, filter_block, AddsPositions, HasFilters}
 use Rattle.std.proofs.Math.Bool.{or-false}
 
@@ -195,14 +196,6 @@ HasFilters-nil = record {
   len = length-replicate {A = ℕ} 4096 0;
   bits = λ c p column place. ap (λ byte. bit_at byte (7 - (512 * c + p) % 8) == 1) (get_or-replicate {A = ℕ} 4096 ((512 * c + p) / 8) 0 0 (omega arith)) ∙ ap (λ n. n == 1) (bit_at-zero (7 - (512 * c + p) % 8));
 }
-
-pub in_append : (p : ℕ) (xs ys : List ℕ) → is_in p (xs ++ ys) ≡ (is_in p xs || is_in p ys)
-in_append p [] ys = refl
-in_append p (x ∷ xs) ys = ap (λ b. (x == p) || b) (in_append p xs ys) ∙ or_assoc (x == p) (is_in p xs) (is_in p ys)
-  where
-    or_assoc : (a b c : Bool) → (a || (b || c)) ≡ ((a || b) || c)
-    or_assoc true b c = refl
-    or_assoc false b c = refl
 
 positions_more : (items : List Item) (item : Item) (c p : ℕ) → is_in p (home_positions (items ++ item ∷ []) c) ≡ (is_in p (home_positions items c) || (home_column item.key == c && is_in p (key_positions item.key)))
 positions_more items item c p =

@@ -14,6 +14,7 @@ use Rattle.lt_tables.specs.declared.Sending.{Sending}
 use Rattle.lt_tables.specs.declared.ColumnPlan.{ColumnPlan}
 use Rattle.lt_tables.specs.Bucket.{capacity}
 use Rattle.lt_tables.specs.Placement.{columns, homed, entries_cost, column_load, is_sender, cost_below, column_mark, sent_cost, put_by_load, by_load, senders, receivers, room, better, best, sendings, keeps_all, plan_of, plan_at}
+use Rattle.lt_tables.proofs.ListLaws.{all_weaker}
 use Rattle.lt_terms.proofs.ItemLaws.{guard_option}
 
 -- ---- sums by recursion
@@ -320,10 +321,6 @@ got_all es fs (s ∷ made) c =
 total-none : {A : Type 0} (f : A → ℕ) (xs : List A) → AllByRecursion (λ x. f x ≡ 0) xs → total f xs ≡ 0
 total-none f [] all = refl
 total-none f (x ∷ xs) all = let a : f x ≡ 0 = all.0 in let b = total-none f xs all.1 in omega arith
-
-pub all_weaker : {A : Type 0} (P Q : A → Type 0) → ((x : A) → P x → Q x) → (xs : List A) → AllByRecursion P xs → AllByRecursion Q xs
-all_weaker P Q f [] all = tt
-all_weaker P Q f (x ∷ xs) all = (f x all.0, all_weaker P Q f xs all.1)
 
 abbrev pub plans_of : List Entry → List Sending → List ColumnPlan
 plans_of es made = map (plan_of es made) columns

@@ -7,9 +7,8 @@ use Rattle.lt_terms.specs.Items.{Item, is_valid}
 use Rattle.lt_tables.specs.Cut.{cut, cut_counts}
 use Rattle.lt_tables.specs.Table.{newest}
 use Rattle.lt_tables.specs.Placement.{entry_of}
-use Rattle.lt_tables.proofs.FitLaws.{all_weaker}
 use Rattle.lt_tables.proofs.RankedLaws.{is_ranked, ranked-newest, newest-ranked, ranked-take, ranked-drop, pieces_all}
-use Rattle.lt_tables.proofs.ListLaws.{all_take, all_drop}
+use Rattle.lt_tables.proofs.ListLaws.{all_take, all_drop, all_weaker}
 
 pub cut-ranked : (items : List Item) → newest items ≡ items → All (λ table. newest table ≡ table) (cut items)
 cut-ranked items own =

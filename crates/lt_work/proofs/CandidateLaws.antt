@@ -8,7 +8,7 @@ use Rattle.std.specs.FinMap as map
 use Rattle.std.specs.FinMap.{is_sorted}
 use Rattle.std.specs.FinMap.Entries.{below_all}
 use Rattle.std.specs.Option.{option_or, unwrap_or}
-use Rattle.std.proofs.lemmas.Bool.{and_from, and_parts, eq-eqb, eqb-true, leb-true, lt-ltb, ltb-true, true≢false}
+use Rattle.std.proofs.lemmas.Bool.{and_from, and_parts, eq-eqb, eqb-true, leb-true, lt-ltb, ltb-true, true≢false, not-true, or_left, or_right}
 use Rattle.std.proofs.lemmas.List.{length-take}
 use Rattle.std.proofs.lemmas.Option.{none-some}
 use Rattle.lt_format.specs.declared.node_id.NodeId.{NodeId}
@@ -26,6 +26,7 @@ use Rattle.lt_work.specs.declared.advancing.Wanted.{Wanted}
 use Rattle.lt_work.specs.declared.advancing.Wanted.TheVariants as wants
 use Rattle.lt_work.specs.Advancing.{next_wanted}
 use Rattle.lt_work.specs.Work.{IsCandidate, SuitsTrie, WorkView, may_begin}
+use Rattle.lt_tables.proofs.ListLaws.{all_filter, all_join}
 
 -- what a walk finds has what all have, and passes the test
 record Found {A : Type 0} (P : A → Type 0) (p : A → Bool) (x : A) : Type 0 where
@@ -51,18 +52,6 @@ sifted P q (x ∷ xs) all = by_test (q x) refl (sifted P q xs all.1)
     by_test : (b : Bool) → q x ≡ b → AllByRecursion (λ x. P x × (q x ≡ true)) (filter q xs) → AllByRecursion (λ x. P x × (q x ≡ true)) (cond b (x ∷ filter q xs) (filter q xs))
     by_test true is rest = ((all.0, is), rest)
     by_test false is rest = rest
-
-joined : {A : Type 0} (P : A → Type 0) (xs ys : List A) → AllByRecursion P xs → AllByRecursion P ys → AllByRecursion P (xs ++ ys)
-joined P [] ys a b = b
-joined P (x ∷ xs) ys a b = (a.0, joined P xs ys a.1 b)
-
-kept_sifted : {A : Type 0} (P : A → Type 0) (q : A → Bool) (xs : List A) → AllByRecursion P xs → AllByRecursion P (filter q xs)
-kept_sifted P q [] all = tt
-kept_sifted P q (x ∷ xs) all = by_test (q x) (kept_sifted P q xs all.1)
-  where
-    by_test : (b : Bool) → AllByRecursion P (filter q xs) → AllByRecursion P (cond b (x ∷ filter q xs) (filter q xs))
-    by_test true rest = (all.0, rest)
-    by_test false rest = rest
 
 -- ---- the nodes that a trie lists
 
@@ -115,8 +104,8 @@ all_full : (levels : ℕ) (trie : Trie) (P : NodeId × Node → Type 0) (n : ℕ
 unfolding full_nodes
 all_full levels trie P zero all = tt
 all_full levels trie P (suc n) all =
-    joined (λ e. P e × (is_full levels e ≡ true)) (filter (is_full levels) (level_nodes trie n)) (full_nodes levels trie n)
-    (sifted P (is_full levels) (level_nodes trie n) (kept_sifted P (λ e. e.0.level == n) trie all)) (all_full levels trie P n all)
+    all_join (λ e. P e × (is_full levels e ≡ true)) (filter (is_full levels) (level_nodes trie n)) (full_nodes levels trie n)
+    (sifted P (is_full levels) (level_nodes trie n) (all_filter P (λ e. e.0.level == n) trie all)) (all_full levels trie P n all)
 
 -- what a candidate is
 pub record IsNext (levels : ℕ) (trie : Trie) (v : WorkView) (id : NodeId) : Type 0 where
@@ -125,20 +114,9 @@ pub record IsNext (levels : ℕ) (trie : Trie) (v : WorkView) (id : NodeId) : Ty
   pub begins : may_begin levels trie v.without_slack id ≡ true
   pub unmarked : is_marked v.passed_over id ≡ false
 
-not_false : (b : Bool) → not b ≡ true → b ≡ false
-not_false true h = absurd (true≢false (sym h))
-not_false false h = refl
-
 neither : (a b : Bool) → not (a || b) ≡ true → (a ≡ false) × (b ≡ false)
 neither true b h = absurd (true≢false (sym h))
-neither false b h = (refl, not_false b h)
-
-or_first : (a b : Bool) → a ≡ true → (a || b) ≡ true
-or_first a b h = ap (λ x. x || b) h
-
-or_second : (a b : Bool) → b ≡ true → (a || b) ≡ true
-or_second true b h = refl
-or_second false b h = h
+neither false b h = (refl, not-true b h)
 
 -- a full pile that is found
 full-next : (levels extents : ℕ) (trie : Trie) (v : WorkView) (e : NodeId × Node) → IsTrie levels extents trie → next_full levels trie v.passed_over ≡ Some e → IsNext levels trie v e.0
@@ -148,8 +126,8 @@ full-next levels extents trie v e t at =
     record {
       node = f.has.0.node;
       some = subst (λ (n : Node). 1 ≤ length n.tables) (sym f.has.0.there) f.has.0.some;
-      begins = or_first (is_full levels (e.0, node_at trie e.0)) (is_last_level levels e.0 && not (is_marked v.without_slack e.0)) full;
-      unmarked = not_false (is_marked v.passed_over e.0) f.passes;
+      begins = or_left (is_full levels (e.0, node_at trie e.0)) (is_last_level levels e.0 && not (is_marked v.without_slack e.0)) full;
+      unmarked = not-true (is_marked v.passed_over e.0) f.passes;
     }
 
 -- a last-level pile that is found
@@ -164,7 +142,7 @@ slack-next levels extents trie v e t at =
     record {
       node = f.has.0.node;
       some = subst (λ (n : Node). 1 ≤ length n.tables) (sym f.has.0.there) f.has.0.some;
-      begins = or_second (is_full levels (e.0, node_at trie e.0)) (is_last_level levels e.0 && not (is_marked v.without_slack e.0)) (and_from _ _ last (ap not both.1));
+      begins = or_right (is_full levels (e.0, node_at trie e.0)) (is_last_level levels e.0 && not (is_marked v.without_slack e.0)) (and_from _ _ last (ap not both.1));
       unmarked = both.0;
     }
 

@@ -6,6 +6,7 @@ use Rattle.std.proofs.lemmas.Bool.{and_from, and_parts, eq-eqb, eqb-true, lt-ltb
 use Rattle.std.proofs.lemmas.List.{length-replicate, length-set}
 use Rattle.std.proofs.lemmas.Option.{none-some}
 use Rattle.lt_terms.specs.Bytes.{Image, is_in}
+use Rattle.lt_terms.proofs.AmongLaws.{in_right, in_left, in_first}
 use Rattle.lt_language.specs.Machine as machine
 use Rattle.lt_alloc.specs.Extents.{AreTaken, is_free}
 use Rattle.lt_format.specs.declared.header.Header.{Header}
@@ -31,23 +32,17 @@ use Rattle.lt_compact.specs.Extents.{AllTaken, GoesWith}
 use Rattle.lt_compact.specs.Jobs.{JobView, taken_in}
 use Rattle.lt_compact.specs.Plans.{all_given, rewriting}
 use Rattle.lt_compact.proofs.CommitLaws.{IsFor, job-committed, job-fits, job-ready, ready-deals, ready-rewrites}
-use Rattle.lt_compact.proofs.ExtentLaws.{apart-joined, distinct_behind, in_front}
+use Rattle.lt_compact.proofs.ExtentLaws.{apart-joined, distinct_behind}
 use Rattle.lt_work.specs.Committing.{CanCommit, cleared_of, committed_work, slackless_after}
 use Rattle.lt_work.specs.Work.{IsTrueOn, SuitsTrie, WorkView, reserved_by}
 use Rattle.lt_work.proofs.CandidateLaws.{IsListed, all-listed, job-node, node-of-five}
-use Rattle.lt_work.proofs.OutlastLaws.{all-absent, all-alike, in-behind, none-wait, of_job, slackless-same}
+use Rattle.lt_work.proofs.OutlastLaws.{all-absent, all-alike, none-wait, of_job, slackless-same}
 
 -- ---- the change may be committed
 
 below-all : (n : ℕ) (xs : List ℕ) → ((x : ℕ) → is_in x xs ≡ true → x < n) → all_below n xs ≡ true
 below-all n [] below = refl
-below-all n (x ∷ xs) below = and_from (nat_lt x n) (all_below n xs) (lt-ltb x n (below x (first x xs))) (below-all n xs (λ y there. below y (behind y x xs there)))
-  where
-    first : (x : ℕ) (xs : List ℕ) → is_in x (x ∷ xs) ≡ true
-    first x xs = ap (λ b. b || is_in x xs) (eq-eqb x x refl)
-
-    behind : (y x : ℕ) (xs : List ℕ) → is_in y xs ≡ true → is_in y (x ∷ xs) ≡ true
-    behind y x xs there = in-behind y (x ∷ []) xs there
+below-all n (x ∷ xs) below = and_from (nat_lt x n) (all_below n xs) (lt-ltb x n (below x (in_first x xs))) (below-all n xs (λ y there. below y (in_right y (x ∷ []) xs there)))
 
 -- the change of a job leaves the log area and the writes
 log-stays : (b : Bool) (id : NodeId) (n : ℕ) (cs : List ChildChange) (h : Header) → log_moves (cond b (rewriting id cs) (deal id n cs)) h h ≡ true
@@ -67,7 +62,7 @@ module _ (m : Named) (taken : List Bool) (w : WorkView) (change : Change) (c : C
   reserved_is = of_job w j c.ready.in_flight
 
   within : (x : ℕ) → is_in x (taken_in j.stage) ≡ true → x < m.manifest.header.extents
-  within x there = let small = goes.reserved.below x (in-behind x (named m.manifest.trie) (taken_in j.stage) there) in let size = c.in_use.len in omega (arith, small, size)
+  within x there = let small = goes.reserved.below x (in_right x (named m.manifest.trie) (taken_in j.stage) there) in let size = c.in_use.len in omega (arith, small, size)
 
   unnamed : (x : ℕ) → is_in x (taken_in j.stage) ≡ true → is_in x (named m.manifest.trie) ≡ false
   unnamed x there = decide (is_in x (named m.manifest.trie)) refl
@@ -101,8 +96,8 @@ module _ (m : Named) (taken : List Bool) (w : WorkView) (change : Change) (c : C
 
   pub commit-freed : AllTaken taken (freed m.manifest.trie change)
   commit-freed = record {
-    below = λ x there. goes.reserved.below x (in_front x (named m.manifest.trie) (taken_in j.stage) (freed-was m.manifest.trie change x there));
-    each = λ x there. goes.reserved.each x (in_front x (named m.manifest.trie) (taken_in j.stage) (freed-was m.manifest.trie change x there));
+    below = λ x there. goes.reserved.below x (in_left x (named m.manifest.trie) (taken_in j.stage) (freed-was m.manifest.trie change x there));
+    each = λ x there. goes.reserved.each x (in_left x (named m.manifest.trie) (taken_in j.stage) (freed-was m.manifest.trie change x there));
   }
 
   pub commit-once : all_distinct (freed m.manifest.trie change) ≡ true

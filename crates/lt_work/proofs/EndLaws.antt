@@ -19,7 +19,7 @@ use Rattle.lt_image.specs.Work.{digit_base, number_of_digits, trie_digits}
 use Rattle.lt_image.proofs.EndLaws.{deal-lowers, digits-decide, due-rewrite-lowers, other-rewrite-leaves}
 use Rattle.lt_pace.specs.Candidates.{next_full, next_slack}
 use Rattle.lt_pace.specs.Marks.{is_marked, marked, most_nodes, no_marks, place_of}
-use Rattle.lt_pace.proofs.CandidateLaws.{none-exhausted, none-settled}
+use Rattle.lt_pace.proofs.CandidateLaws.{none-exhausted, none-settled, none_either}
 use Rattle.lt_pace.proofs.MarkLaws.{place-small}
 use Rattle.lt_compact.specs.declared.step.Stepped.{Stepped}
 use Rattle.lt_compact.specs.declared.step.Stepped.TheVariants as steps
@@ -45,14 +45,10 @@ use Rattle.lt_work.proofs.StepLaws.{step-node, step-whole}
 pub settled-image : (m : Named) (image : Image) (extents : ℕ) (w : WorkView) → IsTrie m.geometry.levels extents m.manifest.trie → IsTrueOn m image w → next_full m.geometry.levels m.manifest.trie w.passed_over ≡ None → IsTrue (is_settled m image)
 settled-image m image extents w t true_on none = none-settled m image extents w.passed_over t true_on.waiting none
 
-none-either : (a b : Option (NodeId × Node)) → option_or a b ≡ None → (a ≡ None) × (b ≡ None)
-none-either None b h = (refl, h)
-none-either (Some x) b h = cc
-
 -- WITH NO PILE LEFT that may have slack either it is exhausted
 pub exhausted-image : (m : Named) (image : Image) (extents : ℕ) (w : WorkView) → IsTrie m.geometry.levels extents m.manifest.trie → IsTrueOn m image w → next_wanted wants.Slack m.geometry.levels m.manifest.trie w ≡ None → IsTrue (is_exhausted m image)
 exhausted-image m image extents w t true_on none =
-    let both = none-either (next_full m.geometry.levels m.manifest.trie w.passed_over) (next_slack m.geometry.levels m.manifest.trie w.passed_over w.without_slack) none in
+    let both = none_either (next_full m.geometry.levels m.manifest.trie w.passed_over) (next_slack m.geometry.levels m.manifest.trie w.passed_over w.without_slack) none in
     none-exhausted m image extents w.passed_over w.without_slack t true_on.waiting true_on.slackless both.0 both.1
 
 -- ---- the digits behind the trie's

@@ -7,6 +7,7 @@ use Rattle.std.proofs.lemmas.List.{length-append, length-replicate}
 use Rattle.std.proofs.lemmas.Option.{none-some}
 use Rattle.lt_terms.specs.Bytes.{Image, is_in}
 use Rattle.lt_terms.specs.Items.{Item}
+use Rattle.lt_terms.proofs.AmongLaws.{in_right}
 use Rattle.lt_alloc.specs.Extents.{Reserves, is_free}
 use Rattle.lt_tables.specs.Table.{is_put, has_two_versions}
 use Rattle.lt_tables.proofs.ListLaws.{all_left, all_right}
@@ -17,6 +18,7 @@ use Rattle.lt_format.specs.Trie.{IsTrie, Node, Trie, all_distinct, is_last_level
 use Rattle.lt_format.proofs.TrieLaws.{if_any, node_at-with_node, same_node-same}
 use Rattle.lt_format.proofs.NamedLaws.{flush-times}
 use Rattle.lt_format.proofs.Numbers.{times, times-append, times-absent, absent-times, distinct-joined}
+use Rattle.lt_format.proofs.FreeLaws.{root_inner}
 use Rattle.lt_image.specs.After.{SameExtent, SameExtents}
 use Rattle.lt_image.specs.Needs.{has_slack, is_full, is_slack, node_items, waits}
 use Rattle.lt_image.specs.Shares.{needed}
@@ -117,16 +119,8 @@ pub all-alike : (m n : Named) (image : Image) (marks : List Bool) (es : Trie) �
 all-alike m n image marks [] geometry all = tt
 all-alike m n image marks (e ∷ es) geometry all = ((λ is. slack-alike m n image e geometry ∙ all.0 is), all-alike m n image marks es geometry all.1)
 
--- the root is no last-level node
-root-inner : (levels : ℕ) → 2 ≤ levels → is_last_level levels root ≡ false
-root-inner levels deep = inner (is_last_level levels root) refl
-  where
-    inner : (b : Bool) → is_last_level levels root ≡ b → is_last_level levels root ≡ false
-    inner false is = is
-    inner true is = let at = eqb-true (0 + 1) levels is in absurd (omega (arith, at, deep))
-
 root-slackless : (n : Named) (image : Image) (node : Node) → 2 ≤ n.geometry.levels → is_slack n image (root, node) ≡ false
-root-slackless n image node deep = ap (λ b. b && has_slack n.geometry.levels n.manifest.trie root (node_items n image node) (length node.tables + length node.groups)) (root-inner n.geometry.levels deep)
+root-slackless n image node deep = ap (λ b. b && has_slack n.geometry.levels n.manifest.trie root (node_items n image node) (length node.tables + length node.groups)) (root_inner n.geometry.levels deep)
 
 -- A FLUSH keeps what is true, but for the nodes that were passed over
 pub flushed-true : (m n : Named) (old new : Image) (taken : List Bool) (numbers : List ℕ) (w : WorkView) → 2 ≤ m.geometry.levels → n.geometry ≡ m.geometry → n.manifest.trie ≡ after_change m.manifest.trie (flush numbers)
@@ -215,7 +209,7 @@ flushed-full levels trie numbers id deep full = by_root (same_node id root) refl
     by_root false is = ap (λ n. is_full levels (id, n)) (node_at-with_node trie root (appended (node_at trie root) numbers) id ∙ ap (λ b. cond b (if_any (appended (node_at trie root) numbers)) (node_at trie id)) is) ∙ full
     by_root true is =
         let at : id ≡ root = same_node-same id root is in
-        let inner : is_last_level levels id ≡ false = ap (is_last_level levels) at ∙ root-inner levels deep in
+        let inner : is_last_level levels id ≡ false = ap (is_last_level levels) at ∙ root_inner levels deep in
         let was : 8 ≤ length (node_at trie id).tables = leb-true 8 (length (node_at trie id).tables) (sym (ap (λ b. nat_le (cond b (2 * (node_at trie id).base + 8) 8) (length (node_at trie id).tables)) inner) ∙ full) in
         let grown : (node_at now id).tables ≡ (node_at trie root).tables ++ numbers = tables-flush trie numbers id ∙ ap (λ b. cond b ((node_at trie root).tables ++ numbers) (node_at trie id).tables) is in
         let same : length (node_at trie id).tables ≡ length (node_at trie root).tables = ap (λ q. length (node_at trie q).tables) at in
@@ -261,10 +255,6 @@ alike-suits levels trie taken now w size same suits = record {
 
 -- ---- the extents that are in use
 
-pub in-behind : (x : ℕ) (xs ys : List ℕ) → is_in x ys ≡ true → is_in x (xs ++ ys) ≡ true
-in-behind x [] ys there = there
-in-behind x (z ∷ xs) ys there = or_right (z == x) (is_in x (xs ++ ys)) (in-behind x xs ys there)
-
 -- what suits names and reserves each extent once
 pub suits-apart : (levels : ℕ) (trie : Trie) (taken : List Bool) (w : WorkView) → SuitsTrie levels trie taken w → all_distinct (named trie) ≡ true → all_distinct (named trie ++ reserved_by w) ≡ true
 suits-apart levels trie taken w suits distinct = by_job w.job refl
@@ -279,4 +269,4 @@ suits-below levels trie taken w suits x there = by_job w.job refl
   where
     by_job : (job : Option JobView) → w.job ≡ job → x < length taken
     by_job None is = absurd (true≢false (sym there ∙ ap (λ o. is_in x (reserved_for o)) is))
-    by_job (Some j) is = (suits.job j is).reserved.below x (in-behind x (named trie) (taken_in j.stage) (sym (ap (λ o. is_in x (reserved_for o)) is) ∙ there))
+    by_job (Some j) is = (suits.job j is).reserved.below x (in_right x (named trie) (taken_in j.stage) (sym (ap (λ o. is_in x (reserved_for o)) is) ∙ there))

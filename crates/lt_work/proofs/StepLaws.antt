@@ -8,6 +8,7 @@ use Rattle.std.proofs.lemmas.List.{length-set}
 use Rattle.std.proofs.lemmas.List.Sums.{sum_by-cons}
 use Rattle.lt_terms.specs.Bytes.{Image, is_in}
 use Rattle.lt_terms.specs.Items.{Item}
+use Rattle.lt_terms.proofs.AmongLaws.{in_append, in_drop, in_take}
 use Rattle.lt_alloc.specs.Extents.{AreTaken, Reserves, free_count, is_free}
 use Rattle.lt_device.specs.Moments.{ShowsSameOutside}
 use Rattle.lt_device.specs.State.{SameOutside, State}
@@ -18,7 +19,7 @@ use Rattle.lt_format.specs.declared.geometry.Geometry.{Geometry}
 use Rattle.lt_format.specs.declared.node_id.NodeId.{NodeId}
 use Rattle.lt_format.specs.Snapshot.{Named}
 use Rattle.lt_format.specs.Trie.{IsTrie, Node, Trie, is_last_level, is_node, named, node_at, same_node}
-use Rattle.lt_format.proofs.Numbers.{times, absent-times, length-without, without}
+use Rattle.lt_format.proofs.Numbers.{times, absent-times, length-without, without, others-stay}
 use Rattle.lt_format.proofs.TrieLaws.{same_node-same}
 use Rattle.lt_image.specs.After.{SameExtents}
 use Rattle.lt_image.specs.Needs.{has_slack, is_slack, node_items, waits}
@@ -34,7 +35,7 @@ use Rattle.lt_compact.specs.Filling.{FillsWithin}
 use Rattle.lt_compact.specs.Jobs.{JobView, KeepsJob, IsShaped, Stage, scanning, planned, filling, is_shaped_stage, is_told_slack, is_whole, taken_in}
 use Rattle.lt_compact.specs.Plans.{extents_for}
 use Rattle.lt_compact.specs.Steps.{Advances, AdvancesFrom, FillsOne, InExtents, next_extents}
-use Rattle.lt_compact.proofs.ExtentLaws.{apart-joined, in_dropped, in_taken, not_in_part, others-same}
+use Rattle.lt_compact.proofs.ExtentLaws.{apart-joined, not_in_part, others-same}
 use Rattle.lt_compact.proofs.LocalLaws.{plan-slack, plan-waits, short-waits}
 use Rattle.lt_work.specs.Advancing.{after_step, given_up, given_up_slackless, is_in_vain, needs_more, tells_no_slack}
 use Rattle.lt_work.specs.Work.{IsCandidate, IsTrueOn, SuitsTrie, WorkView, may_begin, reserved_by}
@@ -47,7 +48,7 @@ use Rattle.lt_work.proofs.OutlastLaws.{of_job, slackless-same, wait-same}
 next_reserved : (stage : Stage) (x : ℕ) → is_in x (next_extents stage) ≡ true → is_in x (taken_in stage) ≡ true
 next_reserved (scanning n kept loose) x there = there
 next_reserved (planned shares) x there = there
-next_reserved (filling shares numbers filled) x there = in_dropped x filled numbers (in_taken x 1 (drop filled numbers) there)
+next_reserved (filling shares numbers filled) x there = in_drop x filled numbers (in_take x 1 (drop filled numbers) there)
 
 in_more : (g : Geometry) (few more : List ℕ) → ((x : ℕ) → is_in x few ≡ true → is_in x more ≡ true) → (k : ℕ) → InExtents g few k → InExtents g more k
 in_more g few more within k inside = record { number = inside.number; among = within inside.number inside.among; from = inside.from; to = inside.to }
@@ -84,21 +85,8 @@ step-true m before image j k v is same keeps true_on = record {
 
 -- ---- a job that needs more than is free
 
--- the extents that are taken are all named where none is reserved: what is not named is free
-others-stay : (n x : ℕ) (xs : List ℕ) → x ≢ n → times x xs ≤ times x (without n xs)
-others-stay n x [] differ = omega arith
-others-stay n x (y ∷ ys) differ = by_head (y == n) refl (others-stay n x ys differ)
-  where
-    by_head : (b : Bool) → (y == n) ≡ b → times x ys ≤ times x (without n ys) → cond (y == x) 1 0 + times x ys ≤ times x (cond (not b) (y ∷ without n ys) (without n ys))
-    by_head true is rest = let other : (y == x) ≡ false = apart (y == x) refl in rw other (omega arith)
-      where
-        apart : (b : Bool) → (y == x) ≡ b → (y == x) ≡ false
-        apart false e = e
-        apart true e = absurd (differ (sym (eqb-true y x e) ∙ eqb-true y n is))
-    by_head false is rest = omega arith
-
 -- where each extent that is taken is named
-taken-named : (taken : List Bool) (k : ℕ) (xs : List ℕ) → ((i : ℕ) → i < length taken → is_free taken i ≡ false → 1 ≤ times (k + i) xs) → length taken ≤ length xs + free_count taken
+pub taken-named : (taken : List Bool) (k : ℕ) (xs : List ℕ) → ((i : ℕ) → i < length taken → is_free taken i ≡ false → 1 ≤ times (k + i) xs) → length taken ≤ length xs + free_count taken
 taken-named [] k xs each = omega arith
 taken-named (true ∷ taken) k xs each =
     let first : k + 0 ≡ k = omega arith in
@@ -311,19 +299,11 @@ step-waits m before g old new trie taken now j k v stepped at is a more are shap
 
 -- ---- the extents that are in use
 
-absent-both : (x : ℕ) (xs ys : List ℕ) → is_in x (xs ++ ys) ≡ (is_in x xs || is_in x ys)
-absent-both x [] ys = refl
-absent-both x (z ∷ xs) ys = by_head (z == x) (absent-both x xs ys)
-  where
-    by_head : (b : Bool) → is_in x (xs ++ ys) ≡ (is_in x xs || is_in x ys) → (b || is_in x (xs ++ ys)) ≡ ((b || is_in x xs) || is_in x ys)
-    by_head true rest = refl
-    by_head false rest = rest
-
 takes-in_use : (n count : ℕ) (trie : Trie) (taken now : List Bool) (numbers : List ℕ) → Reserves count taken now [] numbers → AreTaken n (named trie ++ []) taken → AreTaken n (named trie ++ numbers) now
 takes-in_use n count trie taken now numbers r are = record {
   len = r.same_extents ∙ are.len;
   free = λ x below. r.others_stay x ∙ ap (λ b. b && not (is_in x r.numbers)) (are.free x below ∙ ap (λ xs. not (is_in x xs)) (append-nil (named trie))) ∙ apart (is_in x (named trie)) (is_in x r.numbers)
-      ∙ ap (λ xs. not (is_in x (named trie) || is_in x xs)) (sym r.appended) ∙ ap not (sym (absent-both x (named trie) numbers));
+      ∙ ap (λ xs. not (is_in x (named trie) || is_in x xs)) (sym r.appended) ∙ ap not (sym (in_append x (named trie) numbers));
 }
   where
     apart : (a b : Bool) → (not a && not b) ≡ not (a || b)

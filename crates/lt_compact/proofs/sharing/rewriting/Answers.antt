@@ -6,8 +6,9 @@ use Rattle.lt_terms.specs.Items.{Item, is_valid}
 use Rattle.lt_tables.specs.Table.{is_put, newest, without_deletes}
 use Rattle.lt_tables.specs.Cut.{cut_counts}
 use Rattle.lt_tables.specs.Placement.{entry_of}
+use Rattle.lt_tables.proofs.ListLaws.{filter_few}
 use Rattle.lt_compact.specs.Sharing.{IsCut}
-use Rattle.lt_compact.proofs.NeedLaws.{filter-few, filter-ranked, valid-filter}
+use Rattle.lt_compact.proofs.NeedLaws.{filter-ranked, valid-filter}
 use Rattle.lt_compact.proofs.sharing.rewriting.Goals as goal
 
 -- the puts among items in rank order, and the counts of their cut
@@ -17,7 +18,7 @@ puts-cut items seen puts behind counts is same ranked valid few none counts_are 
       ranked = filter-ranked is_put items ranked;
       valid = valid-filter is_put items (subst (λ xs. IsTrue (list_all is_valid xs)) same valid);
       counts_are = counts_are ∙ ap (λ xs. cut_counts (map entry_of (without_deletes xs))) same;
-      few = omega (arith, filter-few is_put items);
+      few = omega (arith, filter_few is_put items);
       pile = omega (arith, ap length none);
     })
 
