@@ -60,7 +60,7 @@ fn write_columns<D: Device>(
 }
 
 /// Makes the page a column's block in the group of these filter pages.
-fn fill_column(page: &mut Page, filters: &[FilterPage], column: u8)
+pub fn fill_column(page: &mut Page, filters: &[FilterPage], column: u8)
     requires column { column < 64 }
     requires few { length filters.now ≤ 64 }
     ensures block { page.new ≡ group_block filters.now column }

@@ -7,4 +7,4 @@ mod group;
 
 pub use columns::read_column;
 pub use fault::GroupFault;
-pub use group::write_group;
+pub use group::{fill_column, write_group};

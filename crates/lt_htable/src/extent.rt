@@ -11,7 +11,7 @@ use lt_device::Device;
 use lt_page::Page;
 
 /// The block of this number in an extent.
-pub(super) fn block_in<D: Device>(device: &D, first: u64, number: u8) -> u64
+pub fn block_in<D: Device>(device: &D, first: u64, number: u8) -> u64
     requires { first + number < D.blocks device.now }
     ensures { result ≡ first + number }
 {
@@ -22,7 +22,7 @@ pub(super) fn block_in<D: Device>(device: &D, first: u64, number: u8) -> u64
 }
 
 /// Reads a bucket of an extent into the page.
-pub(super) fn read_bucket<'p, D: Device>(
+pub fn read_bucket<'p, D: Device>(
     device: &mut D,
     first: u64,
     column: u8,

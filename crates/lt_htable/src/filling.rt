@@ -29,7 +29,7 @@ pub(super) fn fill_bucket(page: &mut Page, items: &[Item], placement: &Placement
 
 /// The column whose bucket holds the item.
 #[tactic(auto, unfolding(lt_item::specs::Parts::parts_of))]
-fn place_of(placement: &Placement, item: &Item) -> u8
+pub fn place_of(placement: &Placement, item: &Item) -> u8
     ensures { result ≡ place_of placement.now item.now }
 {
     let parts = item.parts();
@@ -42,7 +42,7 @@ fn place_of(placement: &Placement, item: &Item) -> u8
 }
 
 /// Where a column's bucket says that it sends.
-fn sends_in(plan: &ColumnPlan) -> Option<Sends>
+pub fn sends_in(plan: &ColumnPlan) -> Option<Sends>
     ensures { result ≡ sends_in plan.now }
 {
     if plan.sends {

@@ -14,7 +14,7 @@ use lt_page::{NoMemory, Page};
 use std::alloc::Global;
 
 /// The filters of a table of these items.
-pub(super) fn filters_of(alloc: Global, items: &[Item]) -> Result<FilterPage, NoMemory>
+pub fn filters_of(alloc: Global, items: &[Item]) -> Result<FilterPage, NoMemory>
     ensures { IfOk result (λ filters. filters ≡ filter_block items.now) }
 {
     let mut filters = FilterPage::new(alloc)?;

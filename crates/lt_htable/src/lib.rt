@@ -14,8 +14,10 @@ mod summary;
 
 pub use building::build;
 pub use cutting::tables_of;
+pub use extent::{block_in, read_bucket};
 pub use faults::{BuildFault, LookFault, ScanFault};
-pub use filters::read_filters;
+pub use filling::{place_of, sends_in};
+pub use filters::{filters_of, read_filters};
 pub use lookup::look;
 pub use scanning::scan;
 pub use summary::entries_of;

@@ -136,6 +136,14 @@ impl Manifest {
         &self.geometry
     }
 
+    /// The area that is current, 0 or 1.
+    pub fn area(&self) -> u8
+        ensures area { result ≡ self.now.area }
+        ensures kept { IsKept self.now }
+    {
+        self.area
+    }
+
     pub fn header(&self) -> Header
         ensures header { result ≡ self.now.manifest.header }
         ensures kept { IsKept self.now }
