@@ -63,9 +63,10 @@ pub enum ScanFault {
 }
 
 impl From<LookFault> for ScanFault {
-    ghost use Rattle.lt_htable.specs.Faults.{IsSameFault};
+    ghost use Rattle.std.specs.Prelude.{◌≡◌};
+    ghost use Rattle.lt_htable.specs.Faults.{scan_fault_of};
 
-    ghost from_gives = { IsSameFault };
+    ghost from_gives = { λ look fault. fault ≡ scan_fault_of look };
 
     fn from(fault: LookFault) -> ScanFault {
         match fault {
