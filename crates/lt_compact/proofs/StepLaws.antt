@@ -2,7 +2,6 @@
 use Rattle.std.proofs.Common.{◌≡◌, ℕ, zero, suc, ◌+◌, ◌*◌, ◌<◌, ◌≤◌, refl, sym, ap, subst, ◌∙◌, List, [], ◌∷◌, ◌++◌, map, length, take, get_or, Bool, true, false, not, cond, ◌||◌, Option, Some, None, arith}
 use Rattle.std.specs.Prelude.{◌==◌, nat_le, nat_lt, slice_index, is_some}
 use Rattle.std.specs.List.{filter, last_or, list_any, range_with_len, AllByRecursion}
-use Rattle.std.specs.Option.{option_to_list}
 use Rattle.std.specs.Cmp.Lexicographic.{bytes_decides}
 use Rattle.std.proofs.lemmas.Bool.{and_parts, and_from, eq-eqb, le-leb, leb-true, lt-ltb, true≢false}
 use Rattle.std.proofs.lemmas.List.{append-nil, take_more}

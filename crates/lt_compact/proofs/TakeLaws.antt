@@ -1,8 +1,8 @@
 -- Extents that a job takes, and what its shares get of them.
-use Rattle.std.proofs.Common.{◌≡◌, ◌≢◌, ℕ, suc, ◌+◌, ◌<◌, ◌≤◌, refl, sym, ap, subst, ◌∙◌, List, [], ◌∷◌, ◌++◌, length, take, drop, get_or, Bool, true, false, not, ◌&&◌, ◌||◌, arith, add-one, append-nil, append_assoc, Result, Ok, Err}
-use Rattle.std.specs.Prelude.{◌==◌, ◌↔◌, IsErr, OnOk}
+use Rattle.std.proofs.Common.{◌≡◌, ◌≢◌, ℕ, ◌+◌, ◌<◌, ◌≤◌, refl, sym, ap, subst, ◌∙◌, List, [], ◌∷◌, ◌++◌, length, take, drop, get_or, Bool, true, false, not, ◌&&◌, ◌||◌, arith, add-one, append-nil, append_assoc, Result, Ok, Err}
+use Rattle.std.specs.Prelude.{◌↔◌, IsErr, OnOk}
 use Rattle.std.proofs.Math.Seq.{drop-cons, drop-length}
-use Rattle.std.proofs.lemmas.Bool.{and_from, eqb-true, true≢false}
+use Rattle.std.proofs.lemmas.Bool.{true≢false}
 use Rattle.std.proofs.lemmas.List.{ext_get_or}
 use Rattle.std.proofs.lemmas.List.Sums.{sum_by-cons}
 use Rattle.lt_terms.specs.Bytes.{is_in}

@@ -1,12 +1,12 @@
 -- The tables of a cut: how many there are, and what each of them is.
-use Rattle.std.proofs.Common.{◌≡◌, ℕ, suc, ◌+◌, ◌<◌, ◌≤◌, refl, sym, ap, subst, ◌∙◌, List, [], ◌∷◌, ◌++◌, length, map, drop, true, arith, length-append}
+use Rattle.std.proofs.Common.{◌≡◌, ◌+◌, ◌<◌, ◌≤◌, refl, sym, ap, subst, ◌∙◌, List, [], ◌∷◌, ◌++◌, length, map, true, arith, length-append}
 use Rattle.std.specs.Prelude.{IsTrue, All}
 use Rattle.std.specs.List.{AllByRecursion, flat_map, list_all}
 use Rattle.std.proofs.lemmas.List.{length-map}
 use Rattle.std.proofs.lemmas.List.Elements.{All-from_recursion, recursion_from_All}
 use Rattle.std.proofs.lemmas.Bool.{and_parts}
 use Rattle.lt_terms.specs.Items.{Item, is_valid}
-use Rattle.lt_tables.specs.Cut.{IsTable, cut, cut_counts, pieces, table_total}
+use Rattle.lt_tables.specs.Cut.{IsTable, cut, cut_counts, table_total}
 use Rattle.lt_tables.specs.Table.{newest}
 use Rattle.lt_tables.specs.Placement.{entry_of}
 use Rattle.lt_tables.proofs.CutLaws.{cut-joined, cut-tables}

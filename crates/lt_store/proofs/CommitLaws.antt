@@ -1,9 +1,6 @@
 -- What the commit of the open group says of the store.
-use Rattle.std.proofs.Common.{◌≡◌, inl, ℕ, ◌<◌, ◌≤◌, true, refl, sym, ap, subst, ◌∙◌, List, [], ◌∷◌, ◌++◌, length, drop, arith, append-nil}
-use Rattle.std.specs.Prelude.{IsTrue, Bool, ◌&&◌, nat_le}
-use Rattle.std.proofs.lemmas.Bool.{and_parts, leb-true}
-use Rattle.lt_format.specs.declared.geometry.Geometry.{Geometry}
-use Rattle.lt_format.specs.Layout.{is_geometry}
+use Rattle.std.proofs.Common.{◌≡◌, inl, ℕ, ◌<◌, refl, sym, ap, subst, ◌∙◌, List, [], ◌∷◌, ◌++◌, length, drop, arith, append-nil}
+use Rattle.std.specs.Prelude.{IsTrue, Bool}
 use Rattle.lt_terms.specs.Items.{Item}
 use Rattle.lt_device.specs.State as told
 use Rattle.lt_device.proofs.Runs.{begins}

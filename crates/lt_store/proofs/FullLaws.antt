@@ -1,8 +1,7 @@
 -- A store that a flush is due for: what a crash leaves of it, and how full it is.
-use Rattle.std.proofs.Common.{◌≡◌, ◌≢◌, ℕ, suc, ◌+◌, ◌*◌, ◌<◌, ◌≤◌, refl, sym, ap, subst, ◌∙◌, List, [], ◌∷◌, ◌++◌, length, Bool, true, false, not, ◌||◌, cond, None, Ok, arith, append-nil, length-append, ⊎_elim}
+use Rattle.std.proofs.Common.{◌≡◌, ◌≢◌, ℕ, ◌+◌, ◌*◌, ◌<◌, ◌≤◌, refl, sym, ap, subst, ◌∙◌, List, [], ◌∷◌, ◌++◌, length, Bool, true, false, ◌||◌, None, Ok, arith, append-nil, length-append, ⊎_elim}
 use Rattle.std.specs.Prelude.{IsTrue, ◌==◌, nat_lt}
-use Rattle.std.proofs.lemmas.Bool.{and_parts, eqb-true, ne_eqb, not-false, true≢false, cases_lt}
-use Rattle.std.proofs.lemmas.List.Sums.{sum_by-cons}
+use Rattle.std.proofs.lemmas.Bool.{and_parts, eqb-true, not-false, true≢false, cases_lt}
 use Rattle.lt_terms.specs.Bytes.{Image, is_in}
 use Rattle.lt_terms.specs.Items.{Item, total_cost}
 use Rattle.lt_device.specs.Moments.{MayLeave}
@@ -14,7 +13,7 @@ use Rattle.lt_alloc.specs.Extents.{is_free, free_count}
 use Rattle.lt_format.specs.Log.{items_in}
 use Rattle.lt_format.specs.Snapshot.{Named}
 use Rattle.lt_format.specs.Trie.{named, table_total as tables_in}
-use Rattle.lt_format.proofs.Numbers.{times, absent-times, without, length-without}
+use Rattle.lt_format.proofs.Numbers.{times, absent-times}
 use Rattle.lt_redo.specs.LogState.{LogState}
 use Rattle.lt_redo.specs.Slots.{HasLog}
 use Rattle.lt_image.specs.Pressure.{IsFullImage}

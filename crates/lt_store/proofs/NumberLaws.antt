@@ -1,7 +1,6 @@
 -- Numbers in a list without repetition, and where their extents lie.
-use Rattle.std.proofs.Common.{◌≡◌, ◌≢◌, ℕ, zero, suc, ◌+◌, ◌<◌, refl, sym, subst, ◌∙◌, List, [], ◌∷◌, length, get_or, true, not, arith}
-use Rattle.std.specs.Prelude.{◌==◌}
-use Rattle.std.proofs.lemmas.Bool.{and_parts, true≢false, not-true, eq-eqb, or_left, or_right}
+use Rattle.std.proofs.Common.{◌≡◌, ◌≢◌, ℕ, zero, suc, ◌+◌, ◌<◌, sym, subst, ◌∙◌, List, [], ◌∷◌, length, get_or, true, not, arith}
+use Rattle.std.proofs.lemmas.Bool.{and_parts, true≢false, not-true}
 use Rattle.lt_terms.specs.Bytes.{is_in}
 use Rattle.lt_terms.proofs.AmongLaws.{in_at}
 use Rattle.lt_format.specs.declared.geometry.Geometry.{Geometry}

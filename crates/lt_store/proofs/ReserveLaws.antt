@@ -1,7 +1,7 @@
 -- Extents that a flush reserves, and the facts in memory after it.
-use Rattle.std.proofs.Common.{◌≡◌, ◌≢◌, ℕ, suc, ◌+◌, ◌<◌, ◌≤◌, ◌^◌, refl, sym, ap, subst, ◌∙◌, List, [], ◌∷◌, ◌++◌, length, get_or, Bool, true, false, not, ◌&&◌, ◌||◌, arith}
-use Rattle.std.specs.Prelude.{◌==◌, nat_le, nat_lt}
-use Rattle.std.proofs.lemmas.Bool.{eqb-true, true≢false, and_from, and_parts, leb-true, ltb-true, lt-ltb, not-true, or_parts}
+use Rattle.std.proofs.Common.{◌≡◌, ◌≢◌, ℕ, ◌+◌, ◌<◌, ◌≤◌, ◌^◌, refl, sym, ap, subst, ◌∙◌, List, [], length, Bool, true, false, not, ◌&&◌, ◌||◌, arith}
+use Rattle.std.specs.Prelude.{nat_le, nat_lt}
+use Rattle.std.proofs.lemmas.Bool.{true≢false, and_from, and_parts, leb-true, ltb-true, lt-ltb, not-true, or_parts}
 use Rattle.lt_terms.specs.Items.{Item, total_cost}
 use Rattle.lt_bucket.proofs.BucketPages.{count_small}
 use Rattle.lt_terms.specs.Bytes.{is_in}

@@ -2,7 +2,6 @@
 use Rattle.std.proofs.Common.{◌≡◌, ℕ, ◌+◌, ◌-◌, ◌*◌, ◌<◌, ◌≤◌, refl, sym, ap, subst, ◌∙◌, List, [], ◌∷◌, ◌++◌, append_assoc, length, Bool, true, false, not, cond, ◌&&◌, ◌||◌, Option, Some, None, arith}
 use Rattle.std.specs.Prelude.{◌==◌, IsTrue, count_by}
 use Rattle.std.specs.List.{AllByRecursion}
-use Rattle.std.specs.Option.{option_or}
 use Rattle.std.proofs.lemmas.Bool.{and_parts, eq-eqb, ltb-false, ltb-true, true≢false}
 use Rattle.std.proofs.lemmas.List.Sums.{count_by-le-length, sum_by-set}
 use Rattle.std.proofs.lemmas.List.{length-replicate}
@@ -12,7 +11,7 @@ use Rattle.lt_format.specs.declared.geometry.Geometry.{Geometry}
 use Rattle.lt_format.specs.declared.node_id.NodeId.{NodeId}
 use Rattle.lt_format.specs.Changes.{Change, ChildChange, after_change, deal, fits, new_extents, rewrite}
 use Rattle.lt_format.specs.Snapshot.{Named}
-use Rattle.lt_format.specs.Trie.{IsTrie, Node, Trie, all_below, is_last_level, is_node, node_at}
+use Rattle.lt_format.specs.Trie.{IsTrie, Trie, all_below, is_last_level, is_node, node_at}
 use Rattle.lt_format.proofs.Numbers.{below-times, length-distinct, times-absent}
 use Rattle.lt_image.specs.Needs.{is_exhausted, is_full, is_settled}
 use Rattle.lt_image.specs.Work.{digit_base, number_of_digits, trie_digits}

@@ -1,8 +1,8 @@
 -- What suits a trie, and what is true on an image, outlasts what leaves the named and the reserved extents.
 use Rattle.std.proofs.Common.{◌≡◌, ℕ, ◌+◌, ◌*◌, ◌<◌, ◌≤◌, refl, sym, ap, subst, ◌∙◌, List, [], ◌∷◌, ◌++◌, length, Bool, true, false, not, ◌&&◌, ◌||◌, cond, Option, Some, None, arith, append-nil}
-use Rattle.std.specs.Prelude.{◌==◌, IsTrue, IsFalse, nat_le, nat_lt, replicate, slice_index_or, zero, suc}
+use Rattle.std.specs.Prelude.{IsTrue, IsFalse, nat_le, nat_lt, replicate, slice_index_or, zero, suc}
 use Rattle.std.specs.List.{AllByRecursion, list_all, list_any}
-use Rattle.std.proofs.lemmas.Bool.{and_from, eqb-true, le-leb, leb-true, or_right, true≢false}
+use Rattle.std.proofs.lemmas.Bool.{and_from, le-leb, leb-true, or_right, true≢false}
 use Rattle.std.proofs.lemmas.List.{length-append, length-replicate}
 use Rattle.std.proofs.lemmas.Option.{none-some}
 use Rattle.lt_terms.specs.Bytes.{Image, is_in}

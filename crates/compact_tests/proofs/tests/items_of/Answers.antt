@@ -1,7 +1,3 @@
-use Rattle.std.proofs.Common.{◌≡◌, ap, sym, ◌∙◌, List, Result, Ok, Err, IfOk}
-use Rattle.std.specs.declared.vec.Vec.{Vec}
-use Rattle.lt_terms.specs.Items.{Item}
-use Rattle.lt_tables.specs.Table.{newest}
 use Rattle.lt_tables.proofs.NewestLaws.{batch-newest}
 use Rattle.compact_tests.proofs.tests.items_of.Goals as goal
 
