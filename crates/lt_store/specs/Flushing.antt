@@ -98,8 +98,8 @@ pub record IsFlushed (v w : StoreView) (device : told.State) : Type 0 where
   pub writes : w.writes ≡ v.writes
   pub work : w.work ≡ flushed_work v.work
 
--- the store is down, with its extents, its number of writes, its geometry, the room for filters and the job in flight as
--- before
+-- the store is down, with its extents, its number of writes, its geometry, the room for filters and the job in flight
+-- as before
 pub record StaysDown (v w : StoreView) : Type 0 where
   pub down : w.is_up ≡ false
   pub same_extents : w.taken ≡ v.taken

@@ -23,8 +23,8 @@ in_use n work = named n.manifest.trie ++ reserved_by work
 
 -- The log is that of the manifest; the memory table is the log's items and the pending ones, and fits; the
 -- number of writes counts them all; each group has an item; a group that is open has a slot and room for its items, of
--- which each costs 5 bytes or more; the extents that are taken are those in use, and there is a place for the filters of
--- each; and the work goes with the manifest's trie.
+-- which each costs 5 bytes or more; the extents that are taken are those in use, and there is a place for the filters
+-- of each; and the work goes with the manifest's trie.
 pub record IsKept (n : Named) (log : LogState) (memory : List Item) (taken : List Bool)
     (filters writes : ℕ) (work : WorkView) : Type 0 where
   pub manifest : opened.IsKept n
