@@ -16,11 +16,6 @@ use lt_page::{NoMemory, Page};
 use std::alloc::Global;
 use std::test::Fail;
 
-const ROOT: NodeId = NodeId {
-    level: 0,
-    number: 0,
-};
-
 /// A put of this value, or a delete.
 type Row<'a> = (&'a [u8], Option<&'a [u8]>);
 
@@ -133,7 +128,7 @@ fn give(
         groups: numbers(alloc, groups)?,
     };
     let change = Change::Deal {
-        node: ROOT,
+        node: NodeId::ROOT,
         dropped: 1,
         children: Children::of(vec![in alloc; child]?),
     };
@@ -162,7 +157,7 @@ fn keys(alloc: Global, device: &mut MemDevice, number: u32) -> Result<Vec<u8>, F
 fn deal_of(alloc: Global, extents: u32) -> Result<Rig, Fail> {
     let device = device_of(alloc, 10)?;
     let trie = flushed(alloc, &[0, 1])?;
-    Ok(Rig::begin(alloc, device, trie, ROOT, extents)?.ok_or("it begins")?)
+    Ok(Rig::begin(alloc, device, trie, NodeId::ROOT, extents)?.ok_or("it begins")?)
 }
 
 /// The keys of all tables of a key's child, bucket after bucket.
@@ -190,7 +185,7 @@ fn a_deal_keeps_a_delete_and_a_rewriting_removes_it(rt: HostRuntime) -> Result<(
     assert_eq!(rt; rig.free(), 4);
 
     let (mut device, trie) = rig.into_parts(alloc)?;
-    assert!(rt; trie.pile(ROOT).is_empty());
+    assert!(rt; trie.pile(NodeId::ROOT).is_empty());
     assert_eq!(rt;
         keys_of(alloc, &mut device, &trie, b"a")?.as_slice(),
         b"A".as_slice()
@@ -265,7 +260,9 @@ fn a_step_is_made_again_behind_a_failing_call(rt: HostRuntime) -> Result<(), Fai
         let failing = vec![in alloc; call]?;
         let failing_device = device.crash(alloc, &[], 800, failing, None)?;
         let trie = flushed(alloc, &[0, 1])?;
-        let mut rig = Rig::begin(alloc, failing_device, trie, ROOT, 10)?.ok_or("it begins")?;
+        let mut rig = Rig::begin(alloc, failing_device, trie, NodeId::ROOT, 10)?.ok_or(
+            "it begins",
+        )?;
         let stopped = rig.run(alloc);
         assert_eq!(rt; stopped.last, Err(JobFault::Device), "call {call}");
         let run = rig.run(alloc);
@@ -356,7 +353,7 @@ fn a_group_that_is_not_full_is_written_anew_and_a_full_one_stays(
     give(alloc, &mut trie, child_of(b"a"), &of_a, &[132])?;
     give(alloc, &mut trie, child_of(b"b"), &of_b, &[133])?;
 
-    let mut rig = Rig::begin(alloc, device, trie, ROOT, 138)?.ok_or("it begins")?;
+    let mut rig = Rig::begin(alloc, device, trie, NodeId::ROOT, 138)?.ok_or("it begins")?;
     let run = rig.run(alloc);
     assert_eq!(rt; run.planned, Some((4, false)));
     assert_eq!(rt; run.last, Ok(Stepped::Ready));

@@ -20,11 +20,6 @@ const TWO: Geometry = Geometry {
     slots: 1,
 };
 
-const ROOT: NodeId = NodeId {
-    level: 0,
-    number: 0,
-};
-
 /// Whether a device of so many blocks has room for so many extents.
 fn has_room(blocks: u64, extents: u32) -> bool
     ensures { result ≡ extents_stand TWO blocks extents }
@@ -170,7 +165,7 @@ fn patch<D: Device>(
 /// The root's pile as the device names it.
 fn root<D: Device>(alloc: Global, device: &mut D) -> Result<Vec<u32>, OpenFault> {
     let manifest = open(alloc, device)?;
-    match Vec::from_slice(alloc, manifest.trie().pile(ROOT)) {
+    match Vec::from_slice(alloc, manifest.trie().pile(NodeId::ROOT)) {
         Ok(pile) => Ok(pile),
         Err(_) => Err(OpenFault::NoMemory),
     }
@@ -246,7 +241,7 @@ fn deal<D: Device>(
         return Err(CommitFault::NoMemory);
     };
     let change = Change::Deal {
-        node: ROOT,
+        node: NodeId::ROOT,
         dropped: 1,
         children,
     };

@@ -28,11 +28,6 @@ const GEOMETRY: Geometry = Geometry {
 /// Room for eight extents.
 const BLOCKS: u64 = 872 + 65 * 8;
 
-const ROOT: NodeId = NodeId {
-    level: 0,
-    number: 0,
-};
-
 /// Puts an item in, if it is valid and there is room.
 fn put(table: &mut MemTable, key: &[u8], value: &[u8]) {
     let item = ItemView {
@@ -103,7 +98,7 @@ fn trie_of(alloc: Global) -> Result<Trie, NoMemory> {
         groups: numbers(alloc, &[5])?,
     };
     let deal = Change::Deal {
-        node: ROOT,
+        node: NodeId::ROOT,
         dropped: 1,
         children: Children::of(vec![in alloc; child]?),
     };
