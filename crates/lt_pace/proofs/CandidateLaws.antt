@@ -1,16 +1,16 @@
 -- Walks over the nodes find the candidates; with none left the image is settled, or exhausted.
-use Rattle.std.proofs.Common.{◌≡◌, ◌∙◌, ℕ, zero, suc, ◌+◌, ◌-◌, ◌<◌, refl, sym, ap, subst, List, [], ◌∷◌, Bool, true, false, not, cond}
+use Rattle.std.proofs.Common.{◌≡◌, ◌∙◌, ℕ, zero, suc, ◌+◌, ◌-◌, ◌*◌, ◌<◌, refl, sym, ap, subst, List, [], ◌∷◌, Bool, true, false, not, cond}
 use Rattle.std.proofs.Common.{◌&&◌, ◌||◌, Option, Some, None, arith, true≢false}
 use Rattle.std.specs.Prelude.{◌==◌, is_some, IsTrue, IsFalse, length, nat_le, nat_lt}
-use Rattle.std.specs.List.{AllByRecursion, filter, find, list_all}
+use Rattle.std.specs.List.{AllByRecursion, filter, find, list_all, list_any}
 use Rattle.std.specs.Option.{option_or}
-use Rattle.std.proofs.lemmas.Bool.{and_from, and_parts, eq-eqb, eqb-true, ltb-true}
+use Rattle.std.proofs.lemmas.Bool.{and_from, and_parts, eq-eqb, eqb-true, le-leb, leb-true, ltb-true}
 use Rattle.std.proofs.lemmas.List.Folds.{find-append}
 use Rattle.lt_format.specs.declared.node_id.NodeId.{NodeId}
 use Rattle.lt_terms.specs.Bytes.{Image}
 use Rattle.lt_format.specs.Snapshot.{Named}
 use Rattle.lt_format.specs.Trie.{IsTrie, Node, Trie, is_last_level, is_node, is_shaped}
-use Rattle.lt_image.specs.Needs.{is_exhausted, is_full, is_settled, is_slack, waits}
+use Rattle.lt_image.specs.Needs.{full_at, is_exhausted, is_full, is_paced, is_settled, is_slack, is_twice_full, waits}
 use Rattle.lt_image.specs.Versions.{level_nodes}
 use Rattle.lt_pace.specs.Candidates.{AreSlackless, PassedOverWait, full_nodes, name_of, next_full, next_slack}
 use Rattle.lt_pace.specs.Marks.{is_marked}
@@ -179,3 +179,40 @@ none-exhausted m image extents passed_over without_slack t wait less full slack 
     let p = λ (e : NodeId × Node). not (is_marked passed_over e.0 || is_marked without_slack e.0) in
     let none = none_found (λ e. (e.0.level == levels - 1) && p e) trie (sym (find-sifted p (λ e. e.0.level == levels - 1) trie) ∙ slack) in
     and_from _ _ (none-settled m image extents passed_over t wait full) (all_slack_wait levels passed_over without_slack m image trie refl none wait less)
+
+-- ---- paced
+
+-- a pile with twice as many tables as make it full is full
+twice_full : (levels : ℕ) (e : NodeId × Node) → is_twice_full levels e ≡ true → is_full levels e ≡ true
+twice_full levels e twice = le-leb (full_at levels e.0 e.1) (length e.1.tables) (let many = leb-true (2 * full_at levels e.0 e.1) (length e.1.tables) twice in omega (arith, many))
+
+-- WHERE EACH FULL PILE WAITS each of twice that size does
+pub settled-paced : (m : Named) (image : Image) → is_settled m image ≡ true → is_paced m image ≡ true
+unfolding is_settled is_paced
+settled-paced m image = all m.manifest.trie
+  where
+    one : (full twice wait : Bool) → (twice ≡ true → full ≡ true) → (not full || wait) ≡ true → (not twice || wait) ≡ true
+    one full false wait more h = refl
+    one true true wait more h = h
+    one false true wait more h = absurd (true≢false (sym (more refl)))
+
+    all : (es : Trie) → list_all (λ e. not (is_full m.geometry.levels e) || waits m image e) es ≡ true → list_all (λ e. not (is_twice_full m.geometry.levels e) || waits m image e) es ≡ true
+    all [] h = refl
+    all (e ∷ es) h =
+        let parts = and_parts (not (is_full m.geometry.levels e) || waits m image e) _ h in
+        and_from _ _ (one (is_full m.geometry.levels e) (is_twice_full m.geometry.levels e) (waits m image e) (twice_full m.geometry.levels e) parts.0) (all es parts.1)
+
+-- WHERE NO PILE is of twice that size there is none that is to wait
+pub small-paced : (m : Named) (image : Image) → list_any (is_twice_full m.geometry.levels) m.manifest.trie ≡ false → is_paced m image ≡ true
+unfolding is_paced
+small-paced m image = all m.manifest.trie
+  where
+    one : (a b : Bool) → (a || b) ≡ false → (a ≡ false) × (b ≡ false)
+    one true b h = absurd (true≢false h)
+    one false b h = (refl, h)
+
+    all : (es : Trie) → list_any (is_twice_full m.geometry.levels) es ≡ false → list_all (λ e. not (is_twice_full m.geometry.levels e) || waits m image e) es ≡ true
+    all [] h = refl
+    all (e ∷ es) h =
+        let parts = one (is_twice_full m.geometry.levels e) (list_any (is_twice_full m.geometry.levels) es) h in
+        and_from _ _ (ap (λ b. not b || waits m image e) parts.0) (all es parts.1)

@@ -1,11 +1,12 @@
 //! Laws of marks and of the nodes that are left.
 
-ghost use Rattle.std.specs.Prelude.{◌≡◌, ℕ, ◌||◌, ◌&&◌, not, Bool, List, None, IsTrue, length};
+ghost use Rattle.std.specs.Prelude.{◌≡◌, ℕ, ◌||◌, ◌&&◌, not, Bool, List, None, IsFalse, IsTrue, length};
+ghost use Rattle.std.specs.List.{list_any};
 ghost use Rattle.lt_terms.specs.Bytes.{Image};
 ghost use Rattle.lt_format.specs.declared.node_id.NodeId.{NodeId};
 ghost use Rattle.lt_format.specs.Snapshot.{Named};
 ghost use Rattle.lt_format.specs.Trie.{IsTrie, is_node, same_node};
-ghost use Rattle.lt_image.specs.Needs.{is_exhausted, is_settled};
+ghost use Rattle.lt_image.specs.Needs.{is_exhausted, is_paced, is_settled, is_twice_full};
 ghost use Rattle.lt_pace.specs.Candidates.{AreSlackless, PassedOverWait, next_full, next_slack};
 ghost use Rattle.lt_pace.specs.Marks.{is_marked, marked, most_nodes, unmarked};
 
@@ -32,4 +33,11 @@ pub fn nothing_left()
         → next_full m.geometry.levels m.manifest.trie passed_over ≡ None
         → next_slack m.geometry.levels m.manifest.trie passed_over without_slack ≡ None
         → IsTrue (is_exhausted m image) }
+{}
+
+/// An image is paced where it is settled, and where no pile has twice as many tables as make it full.
+pub fn images_are_paced()
+    ensures settled { (m : Named) (image : Image) → IsTrue (is_settled m image) → IsTrue (is_paced m image) }
+    ensures small { (m : Named) (image : Image)
+        → IsFalse (list_any (is_twice_full m.geometry.levels) m.manifest.trie) → IsTrue (is_paced m image) }
 {}
