@@ -1,5 +1,5 @@
 -- After a step the extents that are named, and those of the job, are taken, each once.
-use Rattle.std.proofs.Common.{◌≡◌, ℕ, refl, sym, ap, subst, ◌∙◌, List, [], ◌∷◌, ◌++◌, length, Bool, true, false, not, ◌&&◌, Option, Result, Ok, Err, arith, append-nil, ◌⊎◌, ⊎_elim}
+use Rattle.std.proofs.Common.{◌≡◌, ℕ, refl, sym, ap, subst, ◌∙◌, List, [], ◌∷◌, ◌++◌, length, Bool, true, false, not, ◌&&◌, Option, Result, Ok, Err, arith, append-nil, ⊎_elim}
 use Rattle.std.specs.Prelude.{◌==◌, IfOk, OnErr}
 use Rattle.std.proofs.lemmas.Bool.{and_from, and_parts, not-true, or_right, true≢false}
 use Rattle.lt_terms.specs.Bytes.{Image, is_in}

@@ -1,5 +1,5 @@
 -- The tables of a group are none that its extent overwrites, and all lie on the device.
-use Rattle.std.proofs.Common.{◌≡◌, ℕ, zero, suc, ◌+◌, ◌-◌, ◌<◌, ◌≤◌, ◌≢◌, refl, sym, ap, subst, ◌∙◌, List, [], ◌∷◌, ◌++◌, length, take, drop, get_or, true, false, not, ◌||◌, Option, Some, None, ◌⊎◌, ⊎_elim, arith, eqb-true, eq-eqb, true≢false}
+use Rattle.std.proofs.Common.{◌≡◌, ℕ, zero, suc, ◌+◌, ◌-◌, ◌<◌, ◌≤◌, ◌≢◌, refl, sym, ap, subst, ◌∙◌, List, [], ◌∷◌, ◌++◌, length, take, drop, get_or, true, false, not, ◌||◌, Option, Some, None, ⊎_elim, arith, eqb-true, eq-eqb, true≢false}
 use Rattle.std.specs.Prelude.{◌==◌, slice_get, slice_range, IsTrue}
 use Rattle.std.specs.List.{AllByRecursion}
 use Rattle.std.proofs.lemmas.Bool.{and_parts, or_cases, or_right, not-true}

@@ -2,7 +2,7 @@
 -- they make; the tables on a key's path, and what a search along them finds.
 use Rattle.std.specs.Prelude.{ℕ, ◌+◌, List, length, Result, Ok, zero, suc, ◌-◌, [], ◌++◌, ◌==◌, Bool, ◌∷◌, map}
 use Rattle.std.specs.Prelude.{reverse, Option, None}
-use Rattle.std.specs.List.{filter, flat_map, list_all, enumerate_from, range_with_len}
+use Rattle.std.specs.List.{filter, flat_map, enumerate_from, range_with_len}
 use Rattle.std.specs.Option.{option_or}
 use Rattle.lt_terms.specs.Bytes.{Image}
 use Rattle.lt_terms.specs.Hashes.{home_column}
@@ -14,7 +14,7 @@ use Rattle.lt_tables.specs.Table.{blocks_from, table_items, newest_of}
 use Rattle.lt_format.specs.declared.geometry.Geometry.{Geometry}
 use Rattle.lt_format.specs.declared.node_id.NodeId.{NodeId}
 use Rattle.lt_format.specs.Layout.{extent_block}
-use Rattle.lt_format.specs.Trie.{Node, Trie, named, root, path, same_node, node_at}
+use Rattle.lt_format.specs.Trie.{Node, Trie, named, path, node_at}
 
 -- what an image names, and the groups of the log that its manifest names
 pub record Opened : Type 0 where

@@ -1,12 +1,12 @@
 -- What a manifest in memory is, where a damage of it may lie, and what the images of a commit name, at each moment
 -- and at its end.
 use Rattle.lt_format.specs.Snapshot.{Names}
-use Rattle.std.specs.Prelude.{◌≡◌, ℕ, ◌+◌, ◌<◌, ◌≤◌, ◌^◌, [], IsTrue, ◌⊎◌, Ok, Some}
+use Rattle.std.specs.Prelude.{◌≡◌, ℕ, ◌+◌, ◌<◌, ◌≤◌, ◌^◌, IsTrue, ◌⊎◌, Some}
 use Rattle.lt_format.specs.declared.geometry.Geometry.{Geometry}
 use Rattle.lt_format.specs.Layout.{is_geometry, area_block, snapshot_blocks}
 use Rattle.lt_format.specs.declared.header.Header.{Header}
 use Rattle.lt_format.specs.Trie.{Trie, IsTrie}
-use Rattle.lt_format.specs.Snapshot.{IsManifest, Manifest, Named, InManifest, manifest_of}
+use Rattle.lt_format.specs.Snapshot.{IsManifest, Manifest, Named, InManifest}
 use Rattle.lt_node.specs.View.{TrieView}
 use Rattle.lt_terms.specs.Bytes.{Image}
 use Rattle.lt_device.specs.Moments.{Leaves, MayOnlyLeave}

@@ -1,5 +1,5 @@
 -- A store that a flush is due for: what a crash leaves of it, and how full it is.
-use Rattle.std.proofs.Common.{◌≡◌, ◌≢◌, ℕ, ◌+◌, ◌*◌, ◌<◌, ◌≤◌, refl, sym, ap, subst, ◌∙◌, List, [], ◌∷◌, ◌++◌, length, Bool, true, false, ◌||◌, None, Ok, arith, append-nil, length-append, ⊎_elim}
+use Rattle.std.proofs.Common.{◌≡◌, ℕ, ◌+◌, ◌*◌, ◌<◌, ◌≤◌, refl, sym, ap, subst, ◌∙◌, List, [], ◌∷◌, ◌++◌, length, Bool, true, false, ◌||◌, None, Ok, arith, append-nil, length-append, ⊎_elim}
 use Rattle.std.specs.Prelude.{IsTrue, ◌==◌, nat_lt}
 use Rattle.std.proofs.lemmas.Bool.{and_parts, eqb-true, not-false, true≢false, cases_lt}
 use Rattle.lt_terms.specs.Bytes.{Image, is_in}

@@ -1,7 +1,6 @@
 use Rattle.std.proofs.Common.{◌≡◌, ◌+◌, ◌∙◌, ap, arith, length}
 use Rattle.lt_image.specs.Versions.{free_extents}
 use Rattle.lt_format.specs.Trie.{table_total}
-use Rattle.lt_work.specs.Work.{reserved_by}
 use Rattle.lt_store.specs.View.{view_of}
 use Rattle.lt_store.proofs.CountLaws.{tables-free}
 use Rattle.lt_store.proofs.FullLaws.{free-all, image-counts}
