@@ -14,12 +14,16 @@ fn read(source: &mut GenSource, page: &mut Page) -> usize {
     }
 }
 
+fn front(page: &Page, count: usize) -> &[u8] {
+    page.bytes().get(..count).unwrap_or(&[])
+}
+
 #[test]
 fn a_stream_of_one_write_is_spelled(rt: HostRuntime) -> Result<(), NoMemory> {
     let mut source = GenSource::new(7, 1);
     let mut page = Page::new(rt.alloc())?;
     same(&rt, read(&mut source, &mut page), 114);
-    let shown = &page.bytes()[..114];
+    let shown = front(&page, 114);
     assert!(rt; shown.starts_with(b"put key0000000 aaaaaaa"));
     assert!(rt; shown.ends_with(b"aaaaaaa\nget key0000000\n"));
     same(&rt, read(&mut source, &mut page), 0);

@@ -11,7 +11,7 @@ pub overflow_cast-result : goal.overflow_cast-result
 overflow_cast-result g c =
     let s = c.args.self.now in
     let kept = s.kept c.requires in
-    let count : c.len.result ≡ length (reserved_by s.work) = c.len.ensures ∙ ap length c.reserved_numbers.ensures in
+    let count = ap length c.reserved_numbers.ensures in
     let all = free-all s.manifest s.log s.memory s.extents (length s.filters) s.writes s.work kept in
     omega (arith, all, tables-free s.manifest kept.manifest, kept.manifest.most, count)
 
@@ -19,7 +19,7 @@ pub overflow_add-result : goal.overflow_add-result
 overflow_add-result g c =
     let s = c.args.self.now in
     let kept = s.kept c.requires in
-    let count : c.len.result ≡ length (reserved_by s.work) = c.len.ensures ∙ ap length c.reserved_numbers.ensures in
+    let count = ap length c.reserved_numbers.ensures in
     let all = free-all s.manifest s.log s.memory s.extents (length s.filters) s.writes s.work kept in
     omega (arith, all, tables-free s.manifest kept.manifest, kept.manifest.most, count, c.free.ensures)
 
@@ -27,9 +27,9 @@ pub returns-clause-told : goal.returns-clause-told
 returns-clause-told g c =
     let s = c.args.self.now in
     let kept = s.kept c.requires in
-    let count : c.len.result ≡ length (reserved_by s.work) = c.len.ensures ∙ ap length c.reserved_numbers.ensures in
+    let count = ap length c.reserved_numbers.ensures in
     let all = free-all s.manifest s.log s.memory s.extents (length s.filters) s.writes s.work kept in
-    let free : c.free.result + c.len.result ≡ free_extents s.manifest = omega (arith, all, count, c.free.ensures) in
+    let free : c.free.result + length c.reserved_numbers.result.now ≡ free_extents s.manifest = omega (arith, all, count, c.free.ensures) in
     let tables : c.tables.result ≡ table_total s.manifest.manifest.trie = c.tables.ensures.count ∙ ap table_total c.trie.ensures.nodes in
     record {
       is = λ i. record { writes = s.writes; reads = c.reads.ensures i; tables = tables i; free = free i };
@@ -41,7 +41,7 @@ pub returns-clause-within : goal.returns-clause-within
 returns-clause-within g c =
     let s = c.args.self.now in
     let kept = s.kept c.requires in
-    let count : c.len.result ≡ length (reserved_by s.work) = c.len.ensures ∙ ap length c.reserved_numbers.ensures in
+    let count = ap length c.reserved_numbers.ensures in
     let all = free-all s.manifest s.log s.memory s.extents (length s.filters) s.writes s.work kept in
     let tables : c.tables.result ≡ table_total s.manifest.manifest.trie = c.tables.ensures.count ∙ ap table_total c.trie.ensures.nodes in
     omega (arith, all, tables, tables-free s.manifest kept.manifest, count, c.free.ensures)
