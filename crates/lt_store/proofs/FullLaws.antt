@@ -64,10 +64,11 @@ free-idle n log memory taken filters writes work k still =
 
 -- ---- the images
 
-abbrev opened_of : StoreView → List (List Item) → Opened
+-- what each image that a crash may leave opens as
+abbrev pub opened_of : StoreView → List (List Item) → Opened
 opened_of v groups = record { named = v.named; groups = groups }
 
-image-opens : (v : StoreView) (d : State) (s : told.State) (filters : ℕ) (o : IsOpen v d s) → IsKept v.named v.log v.memory v.taken filters v.writes v.work → (left : Image) → MayLeave s left → open_image left ≡ Ok (opened_of v o.groups)
+pub image-opens : (v : StoreView) (d : State) (s : told.State) (filters : ℕ) (o : IsOpen v d s) → IsKept v.named v.log v.memory v.taken filters v.writes v.work → (left : Image) → MayLeave s left → open_image left ≡ Ok (opened_of v o.groups)
 image-opens v d s filters o k left may =
     let f = kept-fits v d s v.taken filters v.writes o k in
     let names = same-names v.named o.rest.image left (open-same v d s o left may) (open-names v d s o) in

@@ -16,6 +16,7 @@ pub mod NewestLaws
 pub mod NumberLaws
 pub mod OpenLaws
 pub mod PrepareLaws
+pub mod PressureLaws
 pub mod ReserveLaws
 pub mod SameLaws
 pub mod SeenLaws

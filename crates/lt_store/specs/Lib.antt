@@ -10,6 +10,7 @@ pub mod Going
 pub mod Kept
 pub mod Making
 pub mod Open
+pub mod Pressing
 pub mod Promise
 pub mod Reading
 pub mod Taking

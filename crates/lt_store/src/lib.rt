@@ -11,6 +11,7 @@ mod getting;
 mod laws;
 mod making;
 mod opening;
+mod pressing;
 mod store;
 mod writing;
 
@@ -19,5 +20,6 @@ pub use counts::Stat;
 pub use faults::{InitFault, WriteFault};
 pub use laws::{goes_compose, open_rests};
 pub use making::init;
+pub use pressing::stores_rest;
 pub use store::Store;
 pub use writing::Taken;
