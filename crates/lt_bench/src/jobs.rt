@@ -33,15 +33,18 @@ const ROOT: NodeId = NodeId {
     number: 0,
 };
 
-/// The items of a full table, of 64 bytes each, in rank order. No two tables have a key in common.
-pub fn full_items(alloc: Global, table: u32) -> Result<Vec<Item>, NoMemory>
+/// The items of a full table, of a size of 12 to 200 bytes each, in rank order. No two tables have a key in common.
+pub fn full_items(alloc: Global, table: u32, size: u8) -> Result<Vec<Item>, NoMemory>
     ensures { IfOk result (λ items. newest items.items ≡ items.items) }
 {
     let mut memory = MemTable::new(alloc)?;
+    // A key has eight bytes, and an item's header four.
+    let value = [7; 188];
+    let value = value.get(..usize::from(size.saturating_sub(12))).unwrap_or(&[]);
     for number in 0..3188u32 {
         let key = u64::from(table) * 3188 + u64::from(number);
-        if memory.bytes() <= 204_028 {
-            memory.put(&key.to_be_bytes(), &[7; 52]);
+        if memory.bytes() <= 203_892 {
+            memory.put(&key.to_be_bytes(), value);
         }
     }
     let items = memory.batch(alloc)?;

@@ -34,6 +34,12 @@ const ENTRIES: u32 = 40_000;
 /// As many items with keys of two bytes as a memory table holds.
 const KEYS: u16 = 34_000;
 
+/// How many bytes an item takes, in the tables that are dealt.
+const SIZES: [u8; 3] = [64, 100, 200];
+
+/// So many times the tables are written and dealt.
+const ROUNDS: u32 = 20;
+
 fn main(rt: HostRuntime) -> io::Result<()> {
     for word in env::args(&rt)? {
         match word.as_str() {
@@ -142,35 +148,92 @@ fn time_get<R: Clock + Print + AllocGlobal>(rt: &R) -> io::Result<()> {
     println!(rt; "get: {found} found, the form before takes {percent} hundredths of the time")
 }
 
-/// Prints how long a deal of eight full tables takes, in hundredths of what it takes to write these from lists in
-/// hand; and of that with the lists' items copied and their keys hashed first, as a scan does.
+/// Prints for items of each size how long a deal of eight full tables takes, in hundredths of what it takes to
+/// write these from lists in hand; and of that with the lists' items copied and their keys hashed first, as a
+/// scan does.
 fn time_jobs<R: Clock + Print + AllocGlobal>(rt: &R) -> io::Result<()> {
+    for size in SIZES {
+        match least_times(rt, size)? {
+            Some((steps, times)) => {
+                let percent = times.deal.saturating_mul(100) / times.writing.max(1);
+                let both = times.writing.saturating_add(times.copying);
+                let with_copies = times.deal.saturating_mul(100) / both.max(1);
+                println!(rt;
+                    "jobs: items of {size} bytes, {steps} steps, {percent} hundredths of writing the tables, {with_copies} with copies"
+                )?;
+            }
+            None => println!(rt; "jobs: no deal of items of {size} bytes")?,
+        }
+    }
+    Ok(())
+}
+
+/// What one round took, in nanoseconds.
+#[derive(Clone, Copy)]
+struct Times {
+    copying: u128,
+    writing: u128,
+    deal: u128,
+}
+
+/// How many steps the deal takes, and the least that each part took in some rounds: what else the machine does
+/// makes a round longer, and never shorter.
+fn least_times<R: Clock + AllocGlobal>(rt: &R, size: u8) -> io::Result<Option<(u32, Times)>> {
     let mut device = Steady::new(rt.alloc(), GEOMETRY.needed(EXTENTS)).map_err(no_memory)?;
+    let mut least = None;
+    for _ in 0..ROUNDS {
+        let Some((steps, times)) = round(rt, &mut device, size)? else {
+            return Ok(None);
+        };
+        least = match least {
+            None => Some((steps, times)),
+            Some((_, before)) => Some((steps, least_of(before, times))),
+        };
+    }
+    Ok(least)
+}
+
+/// The least of each part.
+fn least_of(a: Times, b: Times) -> Times {
+    Times {
+        copying: a.copying.min(b.copying),
+        writing: a.writing.min(b.writing),
+        deal: a.deal.min(b.deal),
+    }
+}
+
+/// Writes the tables and deals them: the steps and the times.
+fn round<R: Clock + AllocGlobal, D: Device>(
+    rt: &R,
+    device: &mut D,
+    size: u8,
+) -> io::Result<Option<(u32, Times)>> {
     let mut copying = 0;
     let mut writing = 0;
     for table in TABLES {
-        let Some((copied, written)) = time_table(rt, &mut device, table)? else {
-            return println!(rt; "jobs: no table");
+        let Some((copied, written)) = time_table(rt, device, table, size)? else {
+            return Ok(None);
         };
         copying = u128::saturating_add(copying, copied);
         writing = u128::saturating_add(writing, written);
     }
     let Some(mut deal) = Deal::begin(rt.alloc()).map_err(no_memory)? else {
-        return println!(rt; "jobs: no deal");
+        return Ok(None);
     };
 
     let start = Instant::now(rt)?;
-    let steps = deal.run(rt.alloc(), &mut device);
+    let steps = deal.run(rt.alloc(), device);
     let time = start.elapsed(rt)?;
 
     let Some(steps) = steps else {
-        return println!(rt; "jobs: the deal is not ready");
+        return Ok(None);
     };
-    let percent = time.as_nanos() * 100 / writing.max(1);
-    let with_copies = time.as_nanos() * 100 / writing.saturating_add(copying).max(1);
-    println!(rt;
-        "jobs: {steps} steps, {percent} hundredths of writing the tables, {with_copies} with copies"
-    )
+    let times = Times {
+        copying,
+        writing,
+        deal: time.as_nanos(),
+    };
+    Ok(Some((steps, times)))
 }
 
 /// How long it takes to copy the items of a full table, and to write the table.
@@ -178,8 +241,9 @@ fn time_table<R: Clock + AllocGlobal, D: Device>(
     rt: &R,
     device: &mut D,
     table: u32,
+    size: u8,
 ) -> io::Result<Option<(u128, u128)>> {
-    let items = full_items(rt.alloc(), table).map_err(no_memory)?;
+    let items = full_items(rt.alloc(), table, size).map_err(no_memory)?;
     let first = GEOMETRY.extent(table);
     let placed = may_build(rt.alloc(), &items).map_err(no_memory)?;
     if !placed || device.blocks() < first + 65 {
