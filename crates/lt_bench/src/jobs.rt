@@ -40,7 +40,9 @@ pub fn full_items(alloc: Global, table: u32, size: u8) -> Result<Vec<Item>, NoMe
     let mut memory = MemTable::new(alloc)?;
     // A key has eight bytes, and an item's header four.
     let value = [7; 188];
-    let value = value.get(..usize::from(size.saturating_sub(12))).unwrap_or(&[]);
+    let value = value
+        .get(..usize::from(size.saturating_sub(12)))
+        .unwrap_or(&[]);
     for number in 0..3188u32 {
         let key = u64::from(table) * 3188 + u64::from(number);
         if memory.bytes() <= 203_892 {
